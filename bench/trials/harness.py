@@ -215,12 +215,14 @@ class Place:
 class Server:
     """`sctd serve`, which runs no longer than its `with` block."""
 
-    def __init__(self, place: Place, store: Path | str, releases: Path = RELEASES) -> None:
+    def __init__(self, place: Place, store: Path | str, releases: Path = RELEASES,
+                 *words: str, user: int | None = None) -> None:
         self.faults, self.unread = place.path("faults"), b""
         with open(self.faults, "wb") as faults:
             self.process = subprocess.Popen(
-                [place.program, "serve", "--store", store, "--releases", releases],
-                cwd=place.folder, stdin=subprocess.PIPE, stdout=subprocess.PIPE, stderr=faults)
+                [place.program, "serve", "--store", store, "--releases", releases, *words],
+                cwd=place.folder, stdin=subprocess.PIPE, stdout=subprocess.PIPE, stderr=faults,
+                user=user)
 
     def __enter__(self) -> Server:
         return self

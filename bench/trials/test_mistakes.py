@@ -604,3 +604,47 @@ def test_beside_a_server(place: Place) -> None:
         import_at_once(place, server.process.pid)
         assert (server.end(), server.unread) == (0, b"")
     assert count_imports(place) == ["4", "4"]
+
+
+# ---- A store that is only read
+
+READ_ONLY = "--read-only"
+
+
+def is_refused(place: Place, *words: str | Path) -> None:
+    """The store is in use by another process."""
+    ran = place.run(*words)
+    assert ran[:2] == (1, "ERR 2 DiskFault\n")
+    assert "in use by another process" in ran.faults
+
+
+def test_two_readers(place: Place) -> None:
+    """Others may read a store that is only read, and nobody may change it meanwhile."""
+    store = place.make_store()
+    place.done("import", "--store", store, "--releases", place.releases, "r1")
+    before = store.read_bytes()
+    serve = ("serve", "--store", store, "--releases", place.releases)
+    with Server(place, store, place.releases, READ_ONLY) as one:
+        with Server(place, store, place.releases, READ_ONLY) as other:
+            for server in (one, other):
+                assert server.ask("STATUS") == ["OK 1 1 1 -"]
+                assert server.ask("IMPORT r2") == ["ERR 42 Command"]
+                is_refused(place, *serve)
+                is_refused(place, "import", "--store", store, "--releases", place.releases, "r2")
+    with Server(place, store, place.releases) as server:
+        assert server.ask("STATUS") == ["OK 1 1 1 -"]
+        is_refused(place, *serve, READ_ONLY)
+    assert store.read_bytes() == before
+
+
+@pytest.mark.skipif(os.geteuid() != 0, reason="it takes the superuser")
+def test_reader_without_rights(place: Place) -> None:
+    """A file that a user may only read can be served to be read, and in no other way."""
+    store = place.make_store()
+    place.folder.chmod(0o755)
+    store.chmod(0o444)
+    with Server(place, store, place.releases, READ_ONLY, user=OTHER_USER) as server:
+        assert server.ask("STATUS") == ["OK 0 0 0 -"]
+    with Server(place, store, place.releases, user=OTHER_USER) as server:
+        assert server.ask("STATUS") == ["ERR 2 DiskFault"]
+        assert "Permission denied" in server.told()

@@ -26,7 +26,7 @@ use Rattle.command_line.specs.declared.words.Action.TheVariants as actions
 use Rattle.command_line.specs.declared.words.Work.{Work}
 use Rattle.command_line.specs.declared.words.Work.TheVariants as works
 use Rattle.command_line.specs.declared.host.Mode.{Mode}
-use Rattle.command_line.specs.declared.host.Mode.TheVariants.{Open, OpenOrMake, MakeNew}
+use Rattle.command_line.specs.declared.host.Mode.TheVariants.{Open, OpenToRead, OpenOrMake, MakeNew}
 use Rattle.command_line.specs.declared.words.Refused.{Refused}
 use Rattle.command_line.specs.declared.words.Refused.TheVariants as refusals
 use Rattle.command_line.specs.Endings.{Report, report, Tells}
@@ -35,10 +35,11 @@ use Rattle.command_line.specs.Hosts.{HostView, IsRemoved}
 use Rattle.command_line.specs.Tasks.{IsMade, IsServingNew, IsWorkOnDisk}
 use Rattle.command_line.specs.Copies.{IsCopyMade}
 
--- how an action asks for its disk: `init` for one that exists or is made, all others for one that
--- exists
+-- how an action asks for its disk: `init` for one that exists or is made, a server that only reads
+-- for one that is only read, and all others for one that exists
 abbrev pub mode_of : Action → Mode
 mode_of (actions.Init layout) = OpenOrMake
+mode_of (actions.Use (works.Serve folder true)) = OpenToRead
 mode_of action = Open
 
 -- the outcome says that the disk of a name can't be opened
@@ -72,9 +73,10 @@ IsCopiedTo {D} host view before asked to imports layout source after made report
     ⊎ (host.settles to true
     × IsCopyMade host view imports layout source after target made report)))
 
--- whether the folder of releases exists without which the work isn't begun: only `serve` needs one
+-- whether the folder of releases exists without which the work isn't begun: only a server that may
+-- import needs one
 abbrev pub FindsFolder : {D : Type 0} → HostView D → Work → Bool → Type 0
-FindsFolder host (works.Serve folder) found = host.finds folder.now found
+FindsFolder host (works.Serve folder false) found = host.finds folder.now found
 FindsFolder host work found = found ≡ true
 
 -- The store on this disk was opened, and the work was done. If the work needs a folder that doesn't

@@ -1,6 +1,6 @@
 -- What is done with a store.
 use Rattle.std.specs.Prelude.{◌≡◌, ◌↔◌, ◌≤◌, ℕ, List, [], ◌++◌, codes, decimal, Option, Some, None}
-use Rattle.std.specs.Prelude.{Result, Ok, Err}
+use Rattle.std.specs.Prelude.{Bool, true, false, Result, Ok, Err}
 use Rattle.directory.specs.declared.layout.Layout.{Layout}
 use Rattle.directory.specs.declared.layout.Layout.TheVariants as layouts
 use Rattle.disk_model.specs.View.{DiskView}
@@ -13,6 +13,8 @@ use Rattle.line_server.specs.declared.refusal.LineRefusal.TheVariants.{Store}
 use Rattle.line_server.specs.declared.serving.ServeFault.{ServeFault}
 use Rattle.line_server.specs.Sources.{SourceView, no_releases}
 use Rattle.line_server.specs.ReplyValue.{Answer, Done as AllDone}
+use Rattle.line_server.specs.declared.held.Held.{Held}
+use Rattle.line_server.specs.declared.held.Held.TheVariants as holds
 use Rattle.line_server.specs.StateValue.{StateValue, fresh}
 use Rattle.line_server.specs.Replies.{server, status_of}
 use Rattle.line_server.specs.Turns.{HasTurn}
@@ -87,14 +89,20 @@ ended_by (Err fault) = Err fault
 abbrev pub most_reads : ℕ
 most_reads = 4294967295
 
--- the lines of the input were served, and the disk was left in its state after that
-pub record IsInputServed {D : Type 0} (source : SourceView) (view : D → DiskView)
+-- what a server holds back from its start: nothing, unless it only reads
+abbrev pub held_of : (read_only : Bool) → Held
+held_of false = holds.Nothing
+held_of true = holds.Changing
+
+-- The lines of the input were served, with this held back from the start, and the disk was left in
+-- its state after that.
+pub record IsInputServed {D : Type 0} (held : Held) (source : SourceView) (view : D → DiskView)
     (store : StoreValue D) (left : D) (ended : Result Ending ServeFault) (streams : Streams)
     : Type 0 where
   pub result : Result ℕ ServeFault
   pub ends : ended ≡ ended_by result
   pub after : StoreValue D
-  pub served : IsServed result most_reads source view streams store after
+  pub served : IsServed result most_reads held source view streams store after
   pub left_so : left ≡ after.disk
 
 -- what work that doesn't read the input does with an open store
@@ -109,13 +117,13 @@ IsWorkTold host view (works.Merge segments) store left report =
     IsMergeTold view segments store left report
 IsWorkTold host view (works.Digest imports) store left report =
     IsLineTold no_releases view (digest_line imports) store left report
-IsWorkTold host view (works.Serve folder) store left report = ⊥
+IsWorkTold host view (works.Serve folder read_only) store left report = ⊥
 
 -- what work does with an open store: only `serve` reads the input
 abbrev pub IsWorkDone : {D : Type 0} → HostView D → (D → DiskView) → Work → StoreValue D → D
     → Result Ending ServeFault → Streams → Type 0
-IsWorkDone host view (works.Serve folder) store left ended streams =
-    IsInputServed (source_in host folder.now) view store left ended streams
+IsWorkDone host view (works.Serve folder read_only) store left ended streams =
+    IsInputServed (held_of read_only) (source_in host folder.now) view store left ended streams
 IsWorkDone host view work store left ended streams =
     IsWorkTold host view work store left (report ended streams.old streams.new)
     × (streams.rest ≡ streams.input)
@@ -142,4 +150,4 @@ pub record IsServingNew {D : Type 0} (source : SourceView) (view : D → DiskVie
     (ended : Result Ending ServeFault) (streams : Streams) : Type 0 where
   pub had : StoreOr D
   pub making : IsMaking layouts.Two had view disk
-  pub does : OnStore (IsInputServed source view) had left ended streams
+  pub does : OnStore (IsInputServed holds.Nothing source view) had left ended streams

@@ -54,8 +54,9 @@ init_command =
     with_rule (with_rule (new_app (codes "init")) (option (codes "store"))) layout_option
 
 abbrev pub serve_command : App
-serve_command = with_rule (with_rule (new_app (codes "serve")) (option (codes "store")))
-    (option (codes "releases"))
+serve_command = with_rule (with_rule
+    (with_rule (new_app (codes "serve")) (option (codes "store"))) (option (codes "releases")))
+    (flag (codes "read-only"))
 
 abbrev pub import_command : App
 import_command = with_rule (with_rule
@@ -141,8 +142,9 @@ IsWork command rows (works.Import folder name quiet) = (command ≡ codes "impor
     × NamesRelease rows folder.now name.now quiet × (IsGivenFlag (codes "check") rows → ⊥)
 IsWork command rows (works.Check folder name quiet) = (command ≡ codes "import")
     × NamesRelease rows folder.now name.now quiet × IsGivenFlag (codes "check") rows
-IsWork command rows (works.Serve releases) =
+IsWork command rows (works.Serve releases read_only) =
     (command ≡ codes "serve") × (first_of (codes "releases") rows ≡ Some releases.now)
+    × ((read_only ≡ true) ↔ IsGivenFlag (codes "read-only") rows)
 IsWork command rows works.Status = command ≡ codes "status"
 IsWork command rows (works.Merge segments) =
     (command ≡ codes "merge") × IsNumber (codes "segments") rows (Some segments)

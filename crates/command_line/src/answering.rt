@@ -10,7 +10,7 @@ use crate::endings::{Ending, tell};
 use disk_model::Disk;
 use history_store::Store;
 use line_commands::{Request, Unread};
-use line_server::{ServeFault, ServerState, Source, carry_out};
+use line_server::{Held, ServeFault, ServerState, Source, carry_out};
 use std::alloc::Global;
 use std::io::Write;
 
@@ -28,7 +28,7 @@ pub(crate) fn answer_read<D: Disk + Drop, S: Source, O: Write>(
         line store.old store.new.disk
         (report result (O.contents output.old) (O.contents output.new)) }
 {
-    let mut state = ServerState::new();
+    let mut state = ServerState::new(Held::Nothing);
     let outcome = carry_out(alloc, read, &mut state, source, store);
     tell(alloc, output, outcome)
 }

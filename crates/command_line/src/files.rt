@@ -56,6 +56,10 @@ impl<'a, R: Files<File = File> + AllocGlobal + Clone + Drop> Host for FileHost<'
                 let named = name_disk(self.rt, name, FileDisk::open(self.rt, name));
                 disk_or_told(self.rt, named, name, faults)
             }
+            Mode::OpenToRead => {
+                let named = name_disk(self.rt, name, FileDisk::open_to_read(self.rt, name));
+                disk_or_told(self.rt, named, name, faults)
+            }
             Mode::OpenOrMake => {
                 // If this fails, opening the file reports why.
                 let _ = make_private(self.rt, name);

@@ -17,6 +17,8 @@ use std::io::{self, Write};
 pub enum Mode {
     /// The one that exists under the name.
     Open,
+    /// The same, only to be read: nothing can be written to it, and others may read it meanwhile.
+    OpenToRead,
     /// The same, or a new one if there is none.
     OpenOrMake,
     /// A new one, under a name that isn't in use.

@@ -3,7 +3,7 @@
 ghost use Rattle.std.specs.Prelude.{◌≡◌, ◌≤◌, ◌⊎◌, ℕ, map, string_bytes};
 ghost use Rattle.line_server.specs.Streams.{streams};
 ghost use Rattle.command_line.specs.Endings.{report};
-ghost use Rattle.command_line.specs.Tasks.{IsWorkDone, IsWorkOnDisk};
+ghost use Rattle.command_line.specs.Tasks.{IsWorkDone, IsWorkOnDisk, held_of};
 ghost use Rattle.command_line.specs.Hosts.{MakesAsBefore};
 ghost use Rattle.command_line.specs.declared.host.Mode.TheVariants.{Open};
 ghost use Rattle.command_line.specs.Runs.{Does, IsActionDone, IsMadeAt, FindsFolder, IsUsed};
@@ -31,7 +31,7 @@ use directory::Layout;
 use disk_model::MemDisk;
 use history_store::{Refusal, Store};
 use line_commands::import_request;
-use line_server::{LineRefusal, ServeFault};
+use line_server::{Held, LineRefusal, ServeFault};
 use std::alloc::Global;
 use std::io::{Read, Write};
 
@@ -103,6 +103,9 @@ fn mode_of(action: &Action<'_>) -> Mode
 {
     match action {
         Action::Init { .. } => Mode::OpenOrMake,
+        Action::Use(Work::Serve {
+            read_only: true, ..
+        }) => Mode::OpenToRead,
         Action::Copy { .. } | Action::Use(_) => Mode::Open,
     }
 }
@@ -185,13 +188,16 @@ fn init_at<H: Host, O: Write, E: Write>(
     }
 }
 
-/// Whether the folder of releases exists without which the work isn't begun. Only lines that are
-/// served need one: each import of them would be refused.
+/// Whether the folder of releases exists without which the work isn't begun. Only a server that may
+/// import needs one: each import would be refused.
 fn has_folder<H: Host, E: Write>(host: &H, work: &Work<'_>, faults: &mut E) -> bool
     ensures { FindsFolder (H.view host.now) work.now result }
 {
     match work {
-        Work::Serve { releases } => host.has_folder(*releases, faults),
+        Work::Serve {
+            releases,
+            read_only: false,
+        } => host.has_folder(*releases, faults),
         _ => true,
     }
 }
@@ -243,6 +249,17 @@ fn open_and_work<H: Host, I: Read, O: Write, E: Write>(
     }
 }
 
+/// What a server holds back from its start.
+fn held_of(read_only: bool) -> Held
+    ensures { result ≡ held_of read_only }
+{
+    if read_only {
+        Held::Changing
+    } else {
+        Held::Nothing
+    }
+}
+
 /// Works with an open store.
 fn do_work<'a, H: Host, I: Read, O: Write, E: Write>(
     host: &'a H,
@@ -280,9 +297,12 @@ fn do_work<'a, H: Host, I: Read, O: Write, E: Write>(
             };
             check(alloc, *name, &mut source, store, output)
         }
-        Work::Serve { releases } => {
+        Work::Serve {
+            releases,
+            read_only,
+        } => {
             let mut source = FolderSource::new(host, *releases, faults, "importing", true);
-            serve_all(alloc, &mut source, store, input, output)
+            serve_all(alloc, &mut source, store, input, output, held_of(*read_only))
         }
         Work::Status => {
             let ended = tell_status(alloc, store, output);

@@ -7,27 +7,28 @@ ghost use Rattle.command_line.specs.Tasks.{IsInputServed, IsServingNew};
 use crate::endings::{Ending, refuse};
 use disk_model::Disk;
 use history_store::Store;
-use line_server::{ServeFault, Source, serve};
+use line_server::{Held, ServeFault, Source, serve};
 use std::alloc::Global;
 use std::io::{Read, Write};
 
 /// The most reads that a server makes of its input.
 const MOST_READS: u32 = 4_294_967_295;
 
-/// Answers the lines of the input from an open store.
+/// Answers the lines of the input from an open store, of which some may be held back.
 pub(crate) fn serve_all<D: Disk + Drop, S: Source, I: Read, O: Write>(
     alloc: Global,
     source: &mut S,
     store: &mut Store<D>,
     input: &mut I,
     output: &mut O,
+    held: Held,
 ) -> Result<Ending, ServeFault>
-    ensures { IsInputServed (source_view (S.is_honest source.old) (S.releases source.old)) D.view
+    ensures { IsInputServed held (source_view (S.is_honest source.old) (S.releases source.old)) D.view
         store.old store.new.disk result
         (streams (I.remaining input.old) (I.remaining input.new)
         (O.contents output.old) (O.contents output.new)) }
 {
-    match serve(alloc, input, output, source, store, MOST_READS) {
+    match serve(alloc, input, output, source, store, MOST_READS, held) {
         Ok(_) => Ok(Ending::Done),
         Err(fault) => Err(fault),
     }
@@ -49,7 +50,7 @@ pub(crate) fn serve_new<D: Disk + Drop, S: Source, I: Read, O: Write>(
     match Store::create(alloc, disk) {
         Ok(store) => {
             let mut store = store;
-            let ended = serve_all(alloc, source, &mut store, input, output);
+            let ended = serve_all(alloc, source, &mut store, input, output, Held::Nothing);
             (ended, store.close())
         }
         Err((refusal, disk)) => (refuse(alloc, output, refusal), disk),

@@ -70,9 +70,11 @@ pub enum Work<'a> {
         name: &'a str,
         quiet: bool,
     },
-    /// Answer the lines of the input. Releases are folders below `releases`.
+    /// Answer the lines of the input. Releases are folders below `releases`. If `read_only`, no line
+    /// changes the store, and other programs may read its file meanwhile.
     Serve {
         releases: &'a str,
+        read_only: bool,
     },
     /// Write the numbers of imports, rows and segments.
     Status,
@@ -176,6 +178,16 @@ fn quiet<'a>(alloc: Global) -> Arg<'a>
     Arg::new(alloc, "quiet")
         .long("quiet")
         .help("Prints only warnings and refusals on standard error")
+        .action(ArgAction::SetTrue)
+}
+
+/// The option to serve lines without changing the store.
+fn read_only<'a>(alloc: Global) -> Arg<'a>
+    ensures { IsArgument (flag (codes "read-only")) result }
+{
+    Arg::new(alloc, "read-only")
+        .long("read-only")
+        .help("Has no line that changes the store, and lets others read it meanwhile")
         .action(ArgAction::SetTrue)
 }
 
@@ -286,7 +298,8 @@ fn serve<'a>(alloc: Global) -> Result<Command<'a>, AllocError>
     let about = "Answers the lines of standard input on standard output";
     new_command(alloc, "serve", about, helps::SERVE)
         .arg(store(alloc))?
-        .arg(releases(alloc))
+        .arg(releases(alloc))?
+        .arg(read_only(alloc))
 }
 
 fn status<'a>(alloc: Global) -> Result<Command<'a>, AllocError>
@@ -402,6 +415,7 @@ fn work_in<'a>(command: &str, found: &ArgMatches<'a>) -> Option<Work<'a>>
         "import" => import_of(found),
         "serve" => Some(Work::Serve {
             releases: found.get_str("releases")?,
+            read_only: is_set(found, "read-only"),
         }),
         "status" => Some(Work::Status),
         "merge" => Some(Work::Merge {

@@ -13,9 +13,9 @@ use std::rt::Files;
 const MAX_INTERRUPTIONS: u32 = 1_000;
 
 /// A file of the system. It is locked as long as the disk exists: no other `FileDisk` can use the
-/// same file, in this process or in another one. The system releases the lock when the process
-/// ends, however it ends. Programs that take no lock aren't kept out. Nothing is specified about
-/// the file's bytes.
+/// same file, in this process or in another one, unless both are only read. The system releases the
+/// lock when the process ends, however it ends. Programs that take no lock aren't kept out. Nothing
+/// is specified about the file's bytes.
 #[derive(Drop)]
 pub struct FileDisk {
     file: File,
@@ -27,6 +27,15 @@ pub struct FileDisk {
     other_calls: u64,
 }
 
+/// Who else may use a file while it is a disk.
+#[derive(Clone, Copy)]
+enum Sharing {
+    /// No other disk.
+    Alone,
+    /// Disks that are only read.
+    WithReaders,
+}
+
 impl FileDisk {
     ghost use Rattle.disk_model.specs.FileDisk.{file_view, fault_of};
     ghost use Rattle.disk_model.specs.View.{IsUnused};
@@ -36,7 +45,16 @@ impl FileDisk {
         ensures unused { IfOk result (λ disk. IsUnused (file_view disk)) }
     {
         let file = OpenOptions::new().read(true).write(true).open(rt, path);
-        FileDisk::of(file, size_limit(rt))
+        FileDisk::of(file, Sharing::Alone, size_limit(rt))
+    }
+
+    /// Opens an existing file for reading alone, which others may do at the same time: each call
+    /// that would change it fails.
+    pub fn open_to_read<R: Files<File = File>>(rt: &R, path: &str) -> Result<FileDisk, OpenFault>
+        ensures unused { IfOk result (λ disk. IsUnused (file_view disk)) }
+    {
+        let file = OpenOptions::new().read(true).open(rt, path);
+        FileDisk::of(file, Sharing::WithReaders, size_limit(rt))
     }
 
     /// Opens a file for reading and writing, or makes an empty one if there is none.
@@ -48,19 +66,26 @@ impl FileDisk {
             .write(true)
             .create(true)
             .open(rt, path);
-        FileDisk::of(file, size_limit(rt))
+        FileDisk::of(file, Sharing::Alone, size_limit(rt))
     }
 
     /// Locks the file, and waits until the storage disk has what earlier processes wrote, before
     /// anything is read. Refuses anything but a regular file.
-    fn of(opened: io::Result<File>, limit: SizeLimit) -> Result<FileDisk, OpenFault>
+    fn of(
+        opened: io::Result<File>,
+        sharing: Sharing,
+        limit: SizeLimit,
+    ) -> Result<FileDisk, OpenFault>
         ensures unused { IfOk result (λ disk. IsUnused (file_view disk)) }
     {
         let file = opened?;
         if !file.metadata()?.is_file() {
             return Err(OpenFault::NotAFile);
         }
-        file.try_lock()?;
+        match sharing {
+            Sharing::Alone => file.try_lock()?,
+            Sharing::WithReaders => file.try_lock_shared()?,
+        }
         file.sync_all()?;
         Ok(FileDisk {
             file,

@@ -1,5 +1,5 @@
 -- Questions that are asked of the first so many imports.
-use Rattle.std.proofs.Common.{◌≡◌, ℕ, ◌≤◌, Bool, Result, Ok, Err, sym, subst, inl, inr, arith}
+use Rattle.std.proofs.Common.{◌≡◌, ℕ, ◌≤◌, Result, Ok, Err, sym, subst, inl, inr, arith}
 use Rattle.disk_model.specs.View.{DiskView}
 use Rattle.question_model.specs.Questions.{Question}
 use Rattle.line_commands.specs.Commands.{Command, Ask, At}
@@ -8,7 +8,9 @@ use Rattle.line_server.specs.declared.refusal.LineRefusal.TheVariants as refusal
 use Rattle.line_server.specs.Sources.{Releases}
 use Rattle.line_server.specs.ReplyValue.{Answer}
 use Rattle.line_server.specs.Replies.{Server, IsAnswerAt, IsRefusalAt, IsUnseen, IsOutcome, IsAskedOf, imports_seen}
-use Rattle.line_server.specs.StateValue.{IsHeldBack, HoldsBack}
+use Rattle.line_server.specs.declared.held.Held.{Held}
+use Rattle.line_server.specs.StateValue.{IsChange, HoldsBack}
+use Rattle.line_server.proofs.HeldBack.{change_of}
 use Rattle.line_server.specs.Turns.{LeavesAsked, LeavesDisk}
 
 -- how a question comes out that is asked of the first `seen` imports
@@ -53,9 +55,9 @@ module _ {D : Type 0} (honest : Type 0) (releases : Releases) (session : ℕ) (q
 
   module _ (command : Command) (pin : ℕ) (outcome : Result Answer LineRefusal) where
     -- it is never held back
-    pub asked_freely : (met : Bool) → IsAskedOf old session command question pin → HoldsBack met command → ⊥
-    asked_freely met (inl (is, at)) h = subst IsHeldBack is h.1
-    asked_freely met (inr (is, within)) h = subst IsHeldBack is h.1
+    pub asked_freely : (held : Held) → IsAskedOf old session command question pin → HoldsBack held command → ⊥
+    asked_freely held (inl (is, at)) h = subst IsChange is (change_of held command h)
+    asked_freely held (inr (is, within)) h = subst IsChange is (change_of held command h)
 
     pub outcome_at : IsAskedOf old session command question pin → IsOutcome honest releases session command outcome old new → OutcomeAt honest pin question outcome old new
     outcome_at (inl (is, at)) h =

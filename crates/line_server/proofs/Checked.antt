@@ -31,10 +31,10 @@ use Rattle.history_store.proofs.AnyStored.{check_any}
 use Rattle.line_server.proofs.KnownRead.{none_known, known_of, compares_of, refused_compared}
 use Rattle.line_server.proofs.Queried.{carried_out, refused_as, refused_by, lack_is_no_fault}
 
-module _ {D : Type 0} (source : SourceView) (view : D → DiskView) (name : List ℕ) (session : ℕ) (state : StateValue) (free : HoldsBack state.met_damage (Check name) → ⊥) where
+module _ {D : Type 0} (source : SourceView) (view : D → DiskView) (name : List ℕ) (session : ℕ) (state : StateValue) (free : HoldsBack state.held (Check name) → ⊥) where
   -- the disk wasn't used
   unread : (s : StoreValue D) → LeavesQueried view s s
-  unread s = (λ h. refl, none_looks_up (is_listed s.catalog.entries) s.cache (view s.disk).bytes_read)
+  unread s = (λ h. refl, none_looks_up (is_listed s.catalog.entries) s.cache (view s.disk).bytes_read, refl)
 
   -- the source had no memory
   lacking : (s : StoreValue D) → IsResponse (Err (refusals.Store store.OutOfMemory)) source view session (Check name) (server state s) (server state s)
@@ -66,7 +66,7 @@ module _ {D : Type 0} (source : SourceView) (view : D → DiskView) (name : List
     left : {result : Result Receipt Refusal} (outcome : Result Answer LineRefusal) → IsComparedWith (full old.history) (IsStored view old) release outcome → (releases : Releases) → releases (scope_of old.catalog.layout) name ≡ Some (files_of release) → IsChecking result release view old new
         → LeavesQueried view old new × ReadsKnownOf view releases name 0 old new × ComparesStored view releases name outcome old
     left outcome compared releases has c =
-        ((c.meters.counts.moments, c.meters.looked_up), known_of view 0 old new release releases name has c.meters.known, compares_of view old release releases name outcome has compared)
+        ((c.meters.counts.moments, c.meters.looked_up, c.meters.counts.other_calls), known_of view 0 old new release releases name has c.meters.known, compares_of view old release releases name outcome has compared)
 
     -- an import of it would be taken
     pub checked : (receipt : Receipt) (reply : ReplyValue) → IsChecking (Ok receipt) release view old new

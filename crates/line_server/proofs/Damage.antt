@@ -1,5 +1,5 @@
 -- What is held back once damage was met, and that on an honest disk none is.
-use Rattle.std.proofs.Common.{◌≡◌, ◌⊎◌, ℕ, Bool, true, false, List, [], ◌∷◌, Result, Ok, Err, refl, sym, ap, ◌∙◌, inl, inr}
+use Rattle.std.proofs.Common.{◌≡◌, ◌≢◌, ◌⊎◌, ℕ, Bool, true, false, List, [], ◌∷◌, Result, Ok, Err, refl, sym, ap, subst, ◌∙◌, inl, inr}
 use Rattle.std.proofs.lemmas.Bool.{false≢true}
 use Rattle.disk_model.specs.View.{DiskView}
 use Rattle.history_store.specs.declared.refusal.Refusal.{Refusal}
@@ -11,14 +11,14 @@ use Rattle.line_server.specs.declared.refusal.LineRefusal.{LineRefusal}
 use Rattle.line_server.specs.declared.refusal.LineRefusal.TheVariants as refusals
 use Rattle.line_server.specs.Sources.{Releases, source_view}
 use Rattle.line_server.specs.ReplyValue.{Answer}
-use Rattle.line_server.specs.StateValue.{IsHeldBack, met_after}
-use Rattle.line_server.specs.Replies.{Server, Replies, NeedsLater, IsOutcome, IsStoreRefusal, IsRefusalAt, IsClosed, IsLacking, imports_seen}
+use Rattle.line_server.specs.declared.held.Held.{Held}
+use Rattle.line_server.specs.declared.held.Held.TheVariants as holds
+use Rattle.line_server.specs.StateValue.{HoldsBack, reason_of, met_by, met_after}
+use Rattle.line_server.specs.Replies.{Server, Replies, IsOutcome, IsStoreRefusal, IsRefusalAt, IsClosed, IsLacking, imports_seen}
 use Rattle.line_server.specs.Turns.{Turn, Run}
 use Rattle.line_server.specs.Laws.{DamageHoldsBack, HonestMeetsNoDamage}
+use Rattle.line_server.proofs.HeldBack.{change_of, not_both, reason_stays, held_stays}
 use Rattle.line_server.proofs.Pinned.{Settles, asked_outcome}
-
-abbrev damaged : Result Answer LineRefusal
-damaged = Err (refusals.Store store.Damaged)
 
 abbrev is_damage : Refusal → Bool
 is_damage store.Damaged = true
@@ -26,51 +26,51 @@ is_damage _ = false
 
 -- ---- what is held back
 
--- by the outcome of a line it is known whether damage was met
-pub met_by_line : {D : Type 0} (honest : Type 0) (releases : Releases) (line : List ℕ) (outcome : Result Answer LineRefusal) (old new : Server D) → Replies honest releases line outcome old new → new.met_damage ≡ met_after outcome old.met_damage
+-- by the outcome of a line it is known what is held back after it
+pub met_by_line : {D : Type 0} (honest : Type 0) (releases : Releases) (line : List ℕ) (outcome : Result Answer LineRefusal) (old new : Server D) → Replies honest releases line outcome old new → new.held ≡ met_after outcome old.held
 met_by_line {D} honest releases line outcome old new (inl (session, command, asks, inl h)) =
-    ap (λ (d : Server D). d.met_damage) h.unchanged ∙ h.held_back.0 ∙ sym (ap (λ (o : Result Answer LineRefusal). met_after o old.met_damage) h.refused)
+    ap (λ (d : Server D). d.held) h.unchanged ∙ sym (ap (λ (o : Result Answer LineRefusal). met_after o old.held) h.refused ∙ reason_stays old.held command h.held_back)
 met_by_line {D} honest releases line outcome old new (inl (session, command, asks, inr (inl h))) =
-    ap (λ (d : Server D). d.met_damage) h.unchanged ∙ sym (ap (λ (o : Result Answer LineRefusal). met_after o old.met_damage) h.refused)
+    ap (λ (d : Server D). d.held) h.unchanged ∙ sym (ap (λ (o : Result Answer LineRefusal). met_after o old.held) h.refused)
 met_by_line honest releases line outcome old new (inl (session, command, asks, inr (inr h))) = h.damage
 met_by_line {D} honest releases line outcome old new (inr r) =
-    ap (λ (d : Server D). d.met_damage) r.3 ∙ sym (ap (λ (o : Result Answer LineRefusal). met_after o old.met_damage) r.2)
+    ap (λ (d : Server D). d.held) r.3 ∙ sym (ap (λ (o : Result Answer LineRefusal). met_after o old.held) r.2)
 
--- damage that was met stays met
-met_stays : (outcome : Result Answer LineRefusal) (met : Bool) → met ≡ true → met_after outcome met ≡ true
-met_stays (Ok x) met e = e
-met_stays (Err (refusals.Store store.Damaged)) met e = refl
-met_stays (Err (refusals.Store _)) met e = e
-met_stays (Err (refusals.Unread reason)) met e = e
-met_stays (Err refusals.PinRange) met e = e
-met_stays (Err refusals.NoFolder) met e = e
+-- damage is noted, unless the server only reads
+noted_by : (held : Held) → held ≢ holds.Changing → met_by (refusals.Store store.Damaged) held ≡ holds.Confirming
+noted_by holds.Nothing free = refl
+noted_by holds.Confirming free = refl
+noted_by holds.Changing free = absurd (free refl)
 
-module _ (D : Type 0) (view : D → DiskView) (has : Releases) where
-  run_met : (turns : List Turn) (old new : Server D) → Run (source_view ⊥ has) view old turns new → old.met_damage ≡ true → new.met_damage ≡ true
-  run_met [] old new run met = ap (λ (d : Server D). d.met_damage) run ∙ met
-  run_met (turn ∷ turns) old new run met =
-      run_met turns run.0 new run.2
-      (met_by_line (view old.store.disk).is_honest run.1.releases turn.line turn.outcome old run.0 run.1.goes.replies ∙ met_stays turn.outcome old.met_damage met)
+abbrev pub holds_nothing : Held → Bool
+holds_nothing holds.Nothing = true
+holds_nothing held = false
 
--- what is held back needs no later layout
-pub not_both : {D : Type 0} (command : Command) (s : StoreValue D) → IsHeldBack command → NeedsLater command s → ⊥
-not_both (Ask question) s held later = held
-not_both (At number question) s held later = held
-not_both command s held later = later
+pub not_nothing : (held : Held) → holds_nothing held ≡ false → held ≢ holds.Nothing
+not_nothing held some none = false≢true (sym some ∙ ap holds_nothing none)
 
--- a command that is held back is answered 8
-held : {D : Type 0} (honest : Type 0) (releases : Releases) (session : ℕ) (command : Command) (outcome : Result Answer LineRefusal) (old new : Server D) → IsHeldBack command → old.met_damage ≡ true → Settles honest releases session command outcome old new
-    → (outcome ≡ damaged) × (new ≡ old)
-held honest releases session command outcome old new is met (inl h) = (h.refused, h.unchanged)
-held honest releases session command outcome old new is met (inr (inl h)) = absurd (not_both command old.store is h.needs_later)
-held honest releases session command outcome old new is met (inr (inr h)) = absurd (h.free (met, is))
+-- what is held back stays so
+pub run_held : (D : Type 0) (view : D → DiskView) (has : Releases) (turns : List Turn) (old new : Server D) → Run (source_view ⊥ has) view old turns new → old.held ≢ holds.Nothing → new.held ≡ old.held
+run_held D view has [] old new run some = ap (λ (d : Server D). d.held) run
+run_held D view has (turn ∷ turns) old new run some =
+    let one : run.0.held ≡ old.held = met_by_line (view old.store.disk).is_honest run.1.releases turn.line turn.outcome old run.0 run.1.goes.replies ∙ held_stays turn.outcome old.held some in
+    run_held D view has turns run.0 new run.2 (λ none. some (sym one ∙ none)) ∙ one
+
+-- a command that is held back is refused for that reason
+pub refused_as_held : {D : Type 0} (honest : Type 0) (releases : Releases) (session : ℕ) (command : Command) (outcome : Result Answer LineRefusal) (old new : Server D) → HoldsBack old.held command → Settles honest releases session command outcome old new
+    → (outcome ≡ Err (reason_of old.held)) × (new ≡ old)
+refused_as_held honest releases session command outcome old new is (inl h) = (h.refused, h.unchanged)
+refused_as_held honest releases session command outcome old new is (inr (inl h)) = absurd (not_both command old.store (change_of old.held command is) h.needs_later)
+refused_as_held honest releases session command outcome old new is (inr (inr h)) = absurd (h.free is)
 
 pub damage_holds_back : (D : Type 0) (view : D → DiskView) → DamageHoldsBack D view
-damage_holds_back D view has before mid late after first turn turns session command t refused run last asks is =
+damage_holds_back D view has before mid late after first turn turns session command free t refused run last asks is =
     let honest = (view before.store.disk).is_honest in
-    let met : mid.met_damage ≡ true = met_by_line honest t.releases first.line first.outcome before mid t.goes.replies ∙ ap (λ (o : Result Answer LineRefusal). met_after o before.met_damage) refused in
-    held (view late.store.disk).is_honest last.releases session command turn.outcome late after is (run_met D view has turns mid late run met)
-    (asked_outcome (view late.store.disk).is_honest last.releases late after turn.line session command turn.outcome asks last.goes.replies)
+    let met : mid.held ≡ holds.Confirming = met_by_line honest t.releases first.line first.outcome before mid t.goes.replies ∙ ap (λ (o : Result Answer LineRefusal). met_after o before.held) refused ∙ noted_by before.held free in
+    let still : late.held ≡ holds.Confirming = run_held D view has turns mid late run (not_nothing mid.held (ap holds_nothing met)) ∙ met in
+    let out = refused_as_held (view late.store.disk).is_honest last.releases session command turn.outcome late after (subst (λ (k : Held). HoldsBack k command) (sym still) is)
+    (asked_outcome (view late.store.disk).is_honest last.releases late after turn.line session command turn.outcome asks last.goes.replies) in
+    (out.0 ∙ ap (λ (k : Held). Err (reason_of k)) still, out.1)
 
 -- ---- an honest disk
 
@@ -103,7 +103,7 @@ module _ {D : Type 0} (honest : Type 0) (up : honest) (releases : Releases) (old
   undamaged session Trim r = r.0.0
   undamaged session Status r = closed_undamaged r
 
-  pub outcome_undamaged : (session : ℕ) (command : Command) (outcome : Result Answer LineRefusal) → IsOutcome honest releases session command outcome old new → met_after outcome old.met_damage ≡ old.met_damage
+  pub outcome_undamaged : (session : ℕ) (command : Command) (outcome : Result Answer LineRefusal) → IsOutcome honest releases session command outcome old new → met_after outcome old.held ≡ old.held
   outcome_undamaged session command (Ok x) out = refl
   outcome_undamaged session command (Err (refusals.Store store.Damaged)) out = absurd (undamaged session command out)
   outcome_undamaged session command (Err (refusals.Store _)) out = refl
@@ -111,14 +111,14 @@ module _ {D : Type 0} (honest : Type 0) (up : honest) (releases : Releases) (old
   outcome_undamaged session command (Err refusals.PinRange) out = refl
   outcome_undamaged session command (Err refusals.NoFolder) out = refl
 
-  line_undamaged : (line : List ℕ) (outcome : Result Answer LineRefusal) → old.met_damage ≡ false → Replies honest releases line outcome old new → new.met_damage ≡ false
-  line_undamaged line outcome e (inl (session, command, asks, inl h)) = absurd (false≢true (sym e ∙ h.held_back.0))
-  line_undamaged line outcome e (inl (session, command, asks, inr (inl h))) = ap (λ (d : Server D). d.met_damage) h.unchanged ∙ e
-  line_undamaged line outcome e (inl (session, command, asks, inr (inr h))) = h.damage ∙ outcome_undamaged session command outcome h.comes_out ∙ e
-  line_undamaged line outcome e (inr r) = ap (λ (d : Server D). d.met_damage) r.3 ∙ e
+  line_undamaged : (line : List ℕ) (outcome : Result Answer LineRefusal) → Replies honest releases line outcome old new → new.held ≡ old.held
+  line_undamaged line outcome (inl (session, command, asks, inl h)) = ap (λ (d : Server D). d.held) h.unchanged
+  line_undamaged line outcome (inl (session, command, asks, inr (inl h))) = ap (λ (d : Server D). d.held) h.unchanged
+  line_undamaged line outcome (inl (session, command, asks, inr (inr h))) = h.damage ∙ outcome_undamaged session command outcome h.comes_out
+  line_undamaged line outcome (inr r) = ap (λ (d : Server D). d.held) r.3
 
 pub honest_meets_no_damage : (D : Type 0) (view : D → DiskView) → HonestMeetsNoDamage D view
-honest_meets_no_damage D view has old new [] up e run = ap (λ (d : Server D). d.met_damage) run ∙ e
-honest_meets_no_damage D view has old new (turn ∷ turns) up e run =
-    honest_meets_no_damage D view has run.0 new turns (run.1.call.honesty.0 up)
-    (line_undamaged (view old.store.disk).is_honest up run.1.releases old run.0 turn.line turn.outcome e run.1.goes.replies) run.2
+honest_meets_no_damage D view has old new [] up run = ap (λ (d : Server D). d.held) run
+honest_meets_no_damage D view has old new (turn ∷ turns) up run =
+    honest_meets_no_damage D view has run.0 new turns (run.1.call.honesty.0 up) run.2
+    ∙ line_undamaged (view old.store.disk).is_honest up run.1.releases old run.0 turn.line turn.outcome run.1.goes.replies

@@ -1,5 +1,5 @@
 -- What CHECK answers, IMPORT answers next.
-use Rattle.std.proofs.Common.{◌≡◌, ◌⊎◌, ℕ, true, List, Result, sym, ap, ◌∙◌, inl, inr}
+use Rattle.std.proofs.Common.{◌≡◌, ◌⊎◌, ℕ, List, Result, Err, sym, ap, subst, ◌∙◌, inl, inr}
 use Rattle.std.proofs.lemmas.Option.{none-some, same_Some}
 use Rattle.disk_model.specs.View.{DiskView}
 use Rattle.import_check.specs.Release.{files_of}
@@ -11,6 +11,9 @@ use Rattle.line_server.specs.Replies.{Server}
 use Rattle.line_server.specs.Laws.{CheckForetells, IsSure, without_sums}
 use Rattle.store_life.proofs.OneImports.{one_import}
 use Rattle.store_life.proofs.AlikeReleases.{import_alike}
+use Rattle.line_server.specs.declared.held.Held.{Held}
+use Rattle.line_server.specs.StateValue.{HoldsBack, reason_of}
+use Rattle.line_server.proofs.HeldBack.{as_import, as_check}
 use Rattle.line_server.proofs.Damage.{outcome_undamaged}
 use Rattle.line_server.proofs.OneReplies.{said, same_release, NoRelease, WithRelease, WithCheck, foreseen, stays_checked, import_told, check_told}
 use Rattle.line_server.proofs.Pinned.{Settles, asked_outcome}
@@ -31,13 +34,13 @@ module _ {D : Type 0} (releases : Releases) (name : List ℕ) (one two : Result 
       k.is ∙ sym (ap said both.0) ∙ sym h.is
 
   settled : (session other : ℕ) → IsSure one → IsSure two → Settles honest releases session (Check name) one old checked → Settles also releases other (Import name) two checked new → two ≡ one
-  settled session other u v (inl h) (inl k) = k.refused ∙ sym h.refused
+  settled session other u v (inl h) (inl k) = k.refused ∙ ap (λ (s : Server D). Err (reason_of s.held)) h.unchanged ∙ sym h.refused
   settled session other u v (inl h) (inr (inl k)) = absurd k.needs_later
-  settled session other u v (inl h) (inr (inr k)) = absurd (k.free (ap (λ (s : Server D). s.met_damage) h.unchanged ∙ h.held_back.0, tt))
+  settled session other u v (inl h) (inr (inr k)) = absurd (k.free (subst (λ (s : Server D). HoldsBack s.held (Import name)) (sym h.unchanged) (as_import old.held name name h.held_back)))
   settled session other u v (inr (inl h)) k = absurd h.needs_later
   settled session other u v (inr (inr h)) (inl k) =
-      let met : old.met_damage ≡ true = sym (outcome_undamaged honest up releases old checked session (Check name) one h.comes_out) ∙ sym h.damage ∙ k.held_back.0 in
-      absurd (h.free (met, tt))
+      let same : checked.held ≡ old.held = h.damage ∙ outcome_undamaged honest up releases old checked session (Check name) one h.comes_out in
+      absurd (h.free (as_check old.held name name (subst (λ (k : Held). HoldsBack k (Import name)) same k.held_back)))
   settled session other u v (inr (inr h)) (inr (inl k)) = absurd k.needs_later
   settled session other u v (inr (inr h)) (inr (inr k)) =
       with_release (check_told honest releases session name one old checked u h.comes_out) (import_told also releases other name two checked new v k.comes_out)

@@ -1,5 +1,5 @@
 -- That only questions about members are answered 14, where the source gives no members unasked.
-use Rattle.std.proofs.Common.{◌≡◌, ◌≢◌, ◌⊎◌, ℕ, Bool, true, false, List, Some, Result, Err, sym, ap, subst, ◌∙◌, inl, inr}
+use Rattle.std.proofs.Common.{◌≡◌, ◌≢◌, ◌⊎◌, ℕ, Bool, true, false, List, Some, Result, Err, refl, sym, ap, subst, ◌∙◌, inl, inr}
 use Rattle.std.proofs.lemmas.Bool.{false≢true}
 use Rattle.disk_model.specs.View.{DiskView}
 use Rattle.directory.specs.declared.layout.Layout.{Layout}
@@ -18,7 +18,10 @@ use Rattle.line_server.specs.Sources.{Releases, scope_of}
 use Rattle.line_server.specs.ReplyValue.{Answer}
 use Rattle.line_server.specs.Replies.{Server, Replies, NeedsLater, IsOutcome, IsStoreRefusal, IsRefusalAt, IsClosed, IsLacking, imports_seen}
 use Rattle.line_server.specs.Laws.{GivesNoMembers, OnlyMembersNeedLater}
-use Rattle.line_server.proofs.Damage.{not_both}
+use Rattle.line_server.specs.declared.held.Held.{Held}
+use Rattle.line_server.specs.declared.held.Held.TheVariants as holds
+use Rattle.line_server.specs.StateValue.{reason_of}
+use Rattle.line_server.proofs.HeldBack.{change_of, not_both}
 use Rattle.line_server.proofs.Pinned.{Settles, asked_outcome}
 
 abbrev is_later : Refusal → Bool
@@ -28,6 +31,11 @@ is_later _ = false
 abbrev comes_later : Result Answer LineRefusal → Bool
 comes_later (Err (refusals.Store refusal)) = is_later refusal
 comes_later _ = false
+
+held_for_no_layout : (held : Held) → comes_later (Err (reason_of held)) ≡ false
+held_for_no_layout holds.Nothing = refl
+held_for_no_layout holds.Confirming = refl
+held_for_no_layout holds.Changing = refl
 
 module _ {D : Type 0} (honest : Type 0) (releases : Releases) (none : GivesNoMembers releases) (old new : Server D) where
   asked_rightly : (layout : Layout) (name : List ℕ) (release : Release) → releases (scope_of layout) name ≡ Some (files_of release) → IsForLater layout release → ⊥
@@ -73,12 +81,12 @@ only_members_need_later D view releases line outcome old new none replies = (λ 
   honest = (view old.store.disk).is_honest
 
   needed : Replies honest releases line outcome old new → outcome ≡ Err (refusals.Store store.LaterVersion) → (session : ℕ) × (command : Command) × Asks line session command × NeedsLater command old.store
-  needed (inl (session, command, asks, inl h)) e = absurd (false≢true (ap comes_later (sym h.refused ∙ e)))
+  needed (inl (session, command, asks, inl h)) e = absurd (false≢true (sym (held_for_no_layout old.held) ∙ ap comes_later (sym h.refused ∙ e)))
   needed (inl (session, command, asks, inr (inl h))) e = (session, command, asks, h.needs_later)
   needed (inl (session, command, asks, inr (inr h))) e = absurd (performed_never honest releases none old new session command outcome h.comes_out e)
   needed (inr r) e = absurd (false≢true (ap comes_later (sym r.2 ∙ e)))
 
   refused : (session : ℕ) (command : Command) → NeedsLater command old.store → Settles honest releases session command outcome old new → outcome ≡ Err (refusals.Store store.LaterVersion)
-  refused session command later (inl h) = absurd (not_both command old.store h.held_back.1 later)
+  refused session command later (inl h) = absurd (not_both command old.store (change_of old.held command h.held_back) later)
   refused session command later (inr (inl h)) = h.refused
   refused session command later (inr (inr h)) = absurd (h.has_layout later)

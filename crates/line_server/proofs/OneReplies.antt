@@ -25,7 +25,8 @@ use Rattle.line_server.specs.Sources.{Releases, scope_of}
 use Rattle.import_check.specs.declared.release.Release.{Release}
 use Rattle.import_check.specs.Release.{files_of}
 use Rattle.line_server.specs.ReplyValue.{Answer, Done}
-use Rattle.line_server.specs.StateValue.{met_after}
+use Rattle.line_server.specs.declared.held.Held.{Held}
+use Rattle.line_server.specs.StateValue.{HoldsBack, reason_of, met_after}
 use Rattle.line_server.specs.Replies.{Server, Same, SameStore, IsChecked, import_words, imports_seen, left_of, IsAnswer, IsImported, IsClosed, IsStoreRefusal, IsOutcome, NamesRelease, NeedsLater, Replies}
 use Rattle.history_store.specs.Checking.{HasFailed}
 use Rattle.line_server.specs.Laws.{OneReply, AreAlike, IsSure, without_sums}
@@ -33,7 +34,7 @@ use Rattle.store_life.proofs.AlikeReleases.{import_alike}
 use Rattle.line_server.proofs.AskedOf.{OutcomeAt, outcome_at}
 use Rattle.line_server.proofs.AddedRows.{added_out, one_added}
 use Rattle.line_server.proofs.Finding.{AsksFound, same_from, found_out, one_way}
-use Rattle.line_server.proofs.Damage.{not_both}
+use Rattle.line_server.proofs.HeldBack.{change_of, not_both}
 use Rattle.line_server.proofs.Pinned.{Settles}
 use Rattle.line_server.proofs.Received.{receipt_out, one_receipt}
 use Rattle.store_life.proofs.OneImports.{one_import}
@@ -421,35 +422,35 @@ later_too (At number question) s t history catalog later = (
 )
 later_too c s t history catalog later = later
 
-with_damage : {D : Type 0} (a b : Server D) → AreLike a b → b.met_damage ≡ a.met_damage → AreAlike a b
-with_damage a b same met = record { pins = same.pins; history = same.history; catalog = same.catalog; needs_reopen = same.needs_reopen; met_damage = met }
+with_damage : {D : Type 0} (a b : Server D) → AreLike a b → b.held ≡ a.held → AreAlike a b
+with_damage a b same met = record { pins = same.pins; history = same.history; catalog = same.catalog; needs_reopen = same.needs_reopen; held = met }
 
-module _ {D : Type 0} (releases : Releases) (a b after next : Server D) (honest also : Type 0) (up : honest) (so : also) (same : AreLike a b) (met : b.met_damage ≡ a.met_damage) where
+module _ {D : Type 0} (releases : Releases) (a b after next : Server D) (honest also : Type 0) (up : honest) (so : also) (same : AreLike a b) (met : b.held ≡ a.held) where
   unchanged_alike : after ≡ a → next ≡ b → AreAlike after next
   unchanged_alike first second =
       with_damage after next (then_like a b after next same (same_from a after first) (same_from b next second))
-      (ap (λ (d : Server D). d.met_damage) second ∙ met ∙ sym (ap (λ (d : Server D). d.met_damage) first))
+      (ap (λ (d : Server D). d.held) second ∙ met ∙ sym (ap (λ (d : Server D). d.held) first))
 
   -- at states that are alike a command is held back at both or at none
   one_settled : (session : ℕ) (c : Command) (x y : Result Answer LineRefusal) → IsSure x → IsSure y → Settles honest releases session c x a after → Settles also releases session c y b next → (x ≡ y) × AreAlike after next
   one_settled session c x y u v (inl h) (inl k) = (
-    h.refused ∙ sym k.refused,
+    h.refused ∙ ap (λ (k : Held). Err (reason_of k)) (sym met) ∙ sym k.refused,
     unchanged_alike h.unchanged k.unchanged,
   )
   one_settled session c x y u v (inr (inl h)) (inr (inl k)) = (
     h.refused ∙ sym k.refused,
     unchanged_alike h.unchanged k.unchanged,
   )
-  one_settled session c x y u v (inl h) (inr (inl k)) = absurd (not_both c b.store h.held_back.1 k.needs_later)
-  one_settled session c x y u v (inr (inl h)) (inl k) = absurd (not_both c a.store k.held_back.1 h.needs_later)
+  one_settled session c x y u v (inl h) (inr (inl k)) = absurd (not_both c b.store (change_of a.held c h.held_back) k.needs_later)
+  one_settled session c x y u v (inr (inl h)) (inl k) = absurd (not_both c a.store (change_of b.held c k.held_back) h.needs_later)
   one_settled session c x y u v (inr (inl h)) (inr (inr k)) = absurd (k.has_layout (later_too c a.store b.store same.history same.catalog h.needs_later))
   one_settled session c x y u v (inr (inr h)) (inr (inl k)) =
       absurd (h.has_layout (later_too c b.store a.store (sym same.history) (sym same.catalog) k.needs_later))
-  one_settled session c x y u v (inl h) (inr (inr k)) = absurd (k.free (met ∙ h.held_back.0, h.held_back.1))
-  one_settled session c x y u v (inr (inr h)) (inl k) = absurd (h.free (sym met ∙ k.held_back.0, k.held_back.1))
+  one_settled session c x y u v (inl h) (inr (inr k)) = absurd (k.free (subst (λ (k : Held). HoldsBack k c) (sym met) h.held_back))
+  one_settled session c x y u v (inr (inr h)) (inl k) = absurd (h.free (subst (λ (k : Held). HoldsBack k c) met k.held_back))
   one_settled session c x y u v (inr (inr h)) (inr (inr k)) =
       let one = one_outcome releases a b after next honest also up so same session c x y u v h.comes_out k.comes_out in
-      (one.0, with_damage after next one.1 (k.damage ∙ ap (met_after y) met ∙ ap (λ (o : Result Answer LineRefusal). met_after o a.met_damage) (sym one.0) ∙ sym h.damage))
+      (one.0, with_damage after next one.1 (k.damage ∙ ap (met_after y) met ∙ ap (λ (o : Result Answer LineRefusal). met_after o a.held) (sym one.0) ∙ sym h.damage))
 
   one_case : (line : List ℕ) (x y : Result Answer LineRefusal) → IsSure x → IsSure y
       → Replies honest releases line x a after → Replies also releases line y b next → (x ≡ y) × AreAlike after next
@@ -467,4 +468,4 @@ module _ {D : Type 0} (releases : Releases) (a b after next : Server D) (honest 
 pub one_reply : (D : Type 0) (view : D → DiskView) → OneReply D view
 one_reply D view releases line x y a b after next up so same h k u v =
     one_case releases a b after next (view a.store.disk).is_honest (view b.store.disk).is_honest up so
-    (record { pins = same.pins; history = same.history; catalog = same.catalog; needs_reopen = same.needs_reopen }) same.met_damage line x y u v h k
+    (record { pins = same.pins; history = same.history; catalog = same.catalog; needs_reopen = same.needs_reopen }) same.held line x y u v h k

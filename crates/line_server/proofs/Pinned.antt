@@ -11,14 +11,14 @@ use Rattle.line_commands.proofs.Readings.{one_reading, asked_is_read}
 use Rattle.line_server.specs.declared.refusal.LineRefusal.{LineRefusal}
 use Rattle.line_server.specs.Sources.{Releases}
 use Rattle.line_server.specs.ReplyValue.{Answer}
-use Rattle.line_server.specs.Replies.{Server, IsFound, IsAskedOf, NeedsLater, IsRefusedForDamage, IsRefusedForLayout, IsPerformed, Replies}
+use Rattle.line_server.specs.Replies.{Server, IsFound, IsAskedOf, NeedsLater, IsRefusedAsHeld, IsRefusedForLayout, IsPerformed, Replies}
 use Rattle.line_server.specs.Laws.{PinnedIsUndisturbed, IsSure}
 use Rattle.line_server.proofs.AskedOf.{OutcomeAt, asked_freely, outcome_at}
 use Rattle.line_server.proofs.Finding.{AsksFound, ComesOut, one_found, found_out}
 
 -- what a line that asks a command is answered
 abbrev pub Settles : {D : Type 0} → Type 0 → Releases → ℕ → Command → Result Answer LineRefusal → Server D → Server D → Type 0
-Settles honest releases session command outcome old new = IsRefusedForDamage command outcome old new ⊎ IsRefusedForLayout command outcome old new ⊎ IsPerformed honest releases session command outcome old new
+Settles honest releases session command outcome old new = IsRefusedAsHeld command outcome old new ⊎ IsRefusedForLayout command outcome old new ⊎ IsPerformed honest releases session command outcome old new
 
 -- a line that asks a command is answered as that comes out
 pub asked_outcome : {D : Type 0} (honest : Type 0) (releases : Releases) (old new : Server D) (line : List ℕ) (session : ℕ) (command : Command) (outcome : Result Answer LineRefusal) → Asks line session command → Replies honest releases line outcome old new
@@ -35,7 +35,7 @@ pub question_out : {D : Type 0} (honest : Type 0) (releases : Releases) (old new
 question_out honest releases old new line session command question pin outcome asks at has_layout r =
     came_out (asked_outcome honest releases old new line session command outcome asks r) where
       came_out : Settles honest releases session command outcome old new → OutcomeAt honest pin question outcome old new
-      came_out (inl h) = absurd (asked_freely honest releases session question old new command pin outcome old.met_damage at h.held_back)
+      came_out (inl h) = absurd (asked_freely honest releases session question old new command pin outcome old.held at h.held_back)
       came_out (inr (inl h)) = absurd (has_layout h.needs_later)
       came_out (inr (inr h)) = outcome_at honest releases session question old new command pin outcome at h.comes_out
 

@@ -17,7 +17,8 @@ use Rattle.line_server.specs.declared.serving.ServeFault.{ServeFault}
 use Rattle.line_server.specs.declared.serving.ServeFault.TheVariants as faults
 use Rattle.line_server.specs.Sources.{SourceView}
 use Rattle.line_server.specs.ReplyValue.{Answer, reply_value, bytes_of}
-use Rattle.line_server.specs.StateValue.{StateValue, fresh}
+use Rattle.line_server.specs.declared.held.Held.{Held}
+use Rattle.line_server.specs.StateValue.{StateValue, fresh_holding}
 use Rattle.line_server.specs.Replies.{Server, server, AsksNoRelease}
 use Rattle.store_life.specs.Life.{Call}
 use Rattle.line_server.specs.Turns.{Turn, Run, IsTurn, AskNoRelease, lines_asked, replies}
@@ -99,7 +100,7 @@ module _ {D : Type 0} (source : SourceView) (view : D → DiskView) where
     pub run : Run source view before turns now
     pub written : Appends old new (replies turns)
     pub count : served ≡ min (length turns) (2 ^ 64 - 1)
-    pub unasked : AskNoRelease before.met_damage turns → same
+    pub unasked : AskNoRelease before.held turns → same
 
   -- one line more
   run_more : (old mid new : Server D) (turns : List Turn) (turn : Turn) → Run source view old turns mid → IsTurn source view mid turn new
@@ -194,7 +195,7 @@ module _ {D : Type 0} (source : SourceView) (view : D → DiskView) where
         kept_unended Gives (λ x y long other. turn_alike outcome call now after source view x y long other) part (subst Gives e g)
 
     pub line_more : {same later : Type 0} (old mid new : Option (List ℕ)) (before : Server D) (seen buffer : List ℕ) (served : ℕ) → Progress same old mid before now seen buffer served
-        → Gives (no_cr buffer) → (AsksNoRelease (no_cr buffer) now.met_damage → same → later) → Appends mid new (bytes_of (reply_value outcome))
+        → Gives (no_cr buffer) → (AsksNoRelease (no_cr buffer) now.held → same → later) → Appends mid new (bytes_of (reply_value outcome))
         → Progress later old new before after (seen ++ 10 ∷ []) [] (min (served + 1) (2 ^ 64 - 1))
     unfolding room
     line_more old mid new before seen buffer served h g step w =
@@ -208,14 +209,14 @@ module _ {D : Type 0} (source : SourceView) (view : D → DiskView) where
           run = run_more before now after h.turns t h.run (gives_ended h.part buffer h.buffer_is g);
           written = subst (λ (bs : List ℕ). Appends old new bs) (replies_more h.turns t) (Appends-trans old mid new (replies h.turns) (bytes_of (reply_value outcome)) h.written w);
           count = count_more h.turns t served h.count;
-          unasked = λ none. step (ended_asks_none h.part buffer now.met_damage h.buffer_is (rest_ask_none source view h.turns (t ∷ []) before now h.run none).0) (h.unasked (first_ask_none before.met_damage h.turns (t ∷ []) none));
+          unasked = λ none. step (ended_asks_none h.part buffer now.held h.buffer_is (rest_ask_none source view h.turns (t ∷ []) before now h.run none).0) (h.unasked (first_ask_none before.held h.turns (t ∷ []) none));
         }
 
   -- ---- pieces
 
   -- a piece was taken, and the source is the same, if none of its lines asked it for a release
   abbrev pub IsFedUnasked : {E : Type 0} → Type 0 → Result ℕ E → Intake → Server D → Server D → Type 0
-  IsFedUnasked same result taken before after = (f : IsFed result source view taken before after) × (AskNoRelease before.met_damage f.turns → same)
+  IsFedUnasked same result taken before after = (f : IsFed result source view taken before after) × (AskNoRelease before.held f.turns → same)
 
   module _ (old mid : Option (List ℕ)) (before now : Server D) (part piece : List ℕ) (free : IsUnended part) where
     -- as many lines ended as ended behind the part
@@ -245,7 +246,7 @@ module _ {D : Type 0} (source : SourceView) (view : D → DiskView) where
     -- the reply to a line wasn't written whole
     pub not_replied : {E same left : Type 0} (fault : E) (new : Option (List ℕ)) (after : Server D) (taken more buffer later : List ℕ) (answered : ℕ) (outcome : Result Answer LineRefusal) (call : Call)
         → Progress same old mid before now (part ++ taken) buffer answered → piece ≡ (taken ++ 10 ∷ []) ++ more
-        → Gives outcome call now after (no_cr buffer) → (AsksNoRelease (no_cr buffer) now.met_damage → same → left) → AppendsSome mid new (bytes_of (reply_value outcome)) → later ≡ []
+        → Gives outcome call now after (no_cr buffer) → (AsksNoRelease (no_cr buffer) now.held → same → left) → AppendsSome mid new (bytes_of (reply_value outcome)) → later ≡ []
         → IsFedUnasked left (Err fault) (intake part piece later old new) before after
     unfolding room
     not_replied fault new after taken more buffer later answered outcome call h is g step w empty =
@@ -267,7 +268,7 @@ module _ {D : Type 0} (source : SourceView) (view : D → DiskView) where
             replied = (h.turns, t, mid, refl, h.written, w);
             count = tt;
           },
-          λ none. step (ended_asks_none h.part buffer now.met_damage h.buffer_is (rest_ask_none source view h.turns (t ∷ []) before now h.run none).0) (h.unasked (first_ask_none before.met_damage h.turns (t ∷ []) none)),
+          λ none. step (ended_asks_none h.part buffer now.held h.buffer_is (rest_ask_none source view h.turns (t ∷ []) before now h.run none).0) (h.unasked (first_ask_none before.held h.turns (t ∷ []) none)),
         )
 
   -- what holds for the source as it is now holds for the source as it was
@@ -277,7 +278,7 @@ module _ {D : Type 0} (source : SourceView) (view : D → DiskView) where
     run_now (turn ∷ turns) old new run =
         (run.0, turn_now turn.outcome turn.call old run.0 source view now turn.line same run.1, run_now turns run.0 new run.2)
 
-    pub fed_now : {E unchanged : Type 0} (result : Result ℕ E) (taken : Intake) (before after : Server D) → (f : IsFed result now view taken before after) × (AskNoRelease before.met_damage f.turns → unchanged) → IsFedUnasked unchanged result taken before after
+    pub fed_now : {E unchanged : Type 0} (result : Result ℕ E) (taken : Intake) (before after : Server D) → (f : IsFed result now view taken before after) × (AskNoRelease before.held f.turns → unchanged) → IsFedUnasked unchanged result taken before after
     fed_now result taken before after fed = (
       record {
         turns = fed.0.turns;
@@ -322,23 +323,23 @@ module _ {D : Type 0} (source : SourceView) (view : D → DiskView) where
       run = run_both before now after h.turns f.turns h.run f.run;
       written = subst (λ (bs : List ℕ). Appends old new bs) (replies_both h.turns f.turns) (Appends-trans old mid new (replies h.turns) (replies f.turns) h.written f.replied);
       count = let a = h.count in let b = f.count in omega (arith, a, b, length-append h.turns f.turns);
-      unasked = λ none. both (fed.1 (rest_ask_none source view h.turns f.turns before now h.run none)) (h.unasked (first_ask_none before.met_damage h.turns f.turns none));
+      unasked = λ none. both (fed.1 (rest_ask_none source view h.turns f.turns before now h.run none)) (h.unasked (first_ask_none before.held h.turns f.turns none));
     }
 
   -- ---- the ways out
 
-  module _ (most : ℕ) (input rest old : Option (List ℕ)) (begun made : Option (List Reading)) (before : StoreValue D) where
+  module _ (held : Held) (most : ℕ) (input rest old : Option (List ℕ)) (begun made : Option (List Reading)) (before : StoreValue D) where
     abbrev start : Server D
-    start = server fresh before
+    start = server (fresh_holding held) before
 
     abbrev Out : Type 0 → Result ℕ ServeFault → Option (List ℕ) → StoreValue D → Type 0
-    Out same result new after = (s : IsServed result most source view (with_reads (streams input rest old new) begun made) before after) × (AskNoRelease false s.turns → same)
+    Out same result new after = (s : IsServed result most held source view (with_reads (streams input rest old new) begun made) before after) × (AskNoRelease held s.turns → same)
 
     out : {same : Type 0} (result : Result ℕ ServeFault) (new : Option (List ℕ)) (state : StateValue) (after : StoreValue D) (turns : List Turn)
         → Run source view start turns (server state after) → IfSome input (AreLines result (lines_asked turns))
         → (came : List ℕ) → Consumes input rest came → length came ≤ most * 4096 → IsRead result most came rest (length turns) → IsWritten result old new turns → IsCount result (length turns)
         → (reads : List Reading) → Makes begun made reads → length reads ≤ most → came ≡ all_of reads → AreReads result most reads (length turns)
-        → (AskNoRelease false turns → same) → Out same result new after
+        → (AskNoRelease held turns → same) → Out same result new after
     out result new state after turns run lines came consumed few read written count reads makes within all are unasked = (
       record {
         turns = turns;
@@ -394,17 +395,17 @@ module _ {D : Type 0} (source : SourceView) (view : D → DiskView) where
               let left : 0 < length h.part = kept_some h.part (subst (λ (l : List ℕ). 0 < length l) h.buffer_is some) in
               all_lines input rest seen (lines_asked (h.turns ++ last ∷ [])) 0 c end (sym (asked_more h.turns last) ∙ cut_rest seen (lines_asked h.turns) h.part h.cut left)
 
-          last_unasked : {whole : Type 0} → (AsksNoRelease buffer state.met_damage → same → whole) → AskNoRelease false (h.turns ++ last ∷ []) → whole
-          last_unasked step none = step (unended_asks_none h.part buffer state.met_damage h.buffer_is (rest_ask_none source view h.turns (last ∷ []) start (server state now) h.run none).0) (h.unasked (first_ask_none false h.turns (last ∷ []) none))
+          last_unasked : {whole : Type 0} → (AsksNoRelease buffer state.held → same → whole) → AskNoRelease held (h.turns ++ last ∷ []) → whole
+          last_unasked step none = step (unended_asks_none h.part buffer state.held h.buffer_is (rest_ask_none source view h.turns (last ∷ []) start (server state now) h.run none).0) (h.unasked (first_ask_none held h.turns (last ∷ []) none))
 
-          pub ended_within : {whole : Type 0} → (AsksNoRelease buffer state.met_damage → same → whole) → Appends mid new (bytes_of (reply_value outcome)) → Out whole (Ok (min (served + 1) (2 ^ 64 - 1))) new after
+          pub ended_within : {whole : Type 0} → (AsksNoRelease buffer state.held → same → whole) → Appends mid new (bytes_of (reply_value outcome)) → Out whole (Ok (min (served + 1) (2 ^ 64 - 1))) new after
           ended_within step w =
               out (Ok (min (served + 1) (2 ^ 64 - 1))) new later after (h.turns ++ last ∷ []) last_run last_lines seen c few end
               (subst (λ (bs : List ℕ). Appends old new bs) (replies_more h.turns last) (Appends-trans old mid new (replies h.turns) (bytes_of (reply_value outcome)) h.written w))
               (count_more h.turns last served h.count)
               (pieces ++ Gave [] ∷ []) makes (room_for_one pieces (Gave []) most lt) (came_none pieces (Gave []) seen refl all) (pieces, each, refl) (last_unasked step)
 
-          pub unwritten_within : {whole : Type 0} → (AsksNoRelease buffer state.met_damage → same → whole) → AppendsSome mid new (bytes_of (reply_value outcome)) → Out whole (Err faults.Write) new after
+          pub unwritten_within : {whole : Type 0} → (AsksNoRelease buffer state.held → same → whole) → AppendsSome mid new (bytes_of (reply_value outcome)) → Out whole (Err faults.Write) new after
           unwritten_within step w =
               let later_than : ends_in (all_of pieces) < length (h.turns ++ last ∷ []) = omega (arith, h.ends, ap ends_in all, length-append h.turns (last ∷ [])) in
               out (Err faults.Write) new later after (h.turns ++ last ∷ []) last_run (all_are_first input (lines_asked (h.turns ++ last ∷ [])) faults.Write last_lines) seen c few
@@ -442,13 +443,13 @@ module _ {D : Type 0} (source : SourceView) (view : D → DiskView) where
         tt
         (pieces ++ Gave piece ∷ []) makes (room_for_one pieces (Gave piece) most lt) (came_more pieces (Gave piece) seen all)
         (pieces, piece, each, short, refl, subst (λ (l : List ℕ). ends_in l < length turns) all more)
-        (λ none. both (fed.1 (rest_ask_none source view h.turns f.turns start (server state now) h.run none)) (h.unasked (first_ask_none false h.turns f.turns none)))
+        (λ none. both (fed.1 (rest_ask_none source view h.turns f.turns start (server state now) h.run none)) (h.unasked (first_ask_none held h.turns f.turns none)))
 
   -- no memory for the buffer
-  pub not_started : (same : Type 0) → same → (most : ℕ) (input old : Option (List ℕ)) (begun : Option (List Reading)) (before : StoreValue D)
-      → (s : IsServed (Err faults.OutOfMemory) most source view (with_reads (streams input input old old) begun begun) before before) × (AskNoRelease false s.turns → same)
-  not_started same unchanged most input old begun before =
-      out most input input old begun begun before (Err faults.OutOfMemory) old fresh before [] refl (first_lines input input [] [] [] faults.OutOfMemory (Consumes-nil input) (λ more. (lines_in more, refl)))
+  pub not_started : {held : Held} (same : Type 0) → same → (most : ℕ) (input old : Option (List ℕ)) (begun : Option (List Reading)) (before : StoreValue D)
+      → (s : IsServed (Err faults.OutOfMemory) most held source view (with_reads (streams input input old old) begun begun) before before) × (AskNoRelease held s.turns → same)
+  not_started {held} same unchanged most input old begun before =
+      out held most input input old begun begun before (Err faults.OutOfMemory) old (fresh_holding held) before [] refl (first_lines input input [] [] [] faults.OutOfMemory (Consumes-nil input) (λ more. (lines_in more, refl)))
       [] (Consumes-nil input) (omega arith) (refl, refl) (Appends-nil old) tt
       [] (makes_none begun) (omega arith) refl refl (λ none. unchanged)
 

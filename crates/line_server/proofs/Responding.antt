@@ -4,7 +4,8 @@ use Rattle.disk_model.specs.View.{DiskView}
 use Rattle.std.specs.Prelude.{decimal, slice_set, unwrap_or}
 use Rattle.std.proofs.lemmas.Bool.{false≢true}
 use Rattle.std.proofs.lemmas.List.Elements.{All-set}
-use Rattle.history_model.specs.History.{rows_at}
+use Rattle.history_model.specs.History.{rows_at, full}
+use Rattle.import_check.specs.declared.release.Release.{Release}
 use Rattle.rf2_values.specs.declared.row.Kind.{Kind}
 use Rattle.rf2_values.specs.declared.key.Key.{Key}
 use Rattle.history_model.specs.Brought.{ImportReceiptOf}
@@ -12,11 +13,12 @@ use Rattle.history_store.specs.declared.refusal.Refusal.{Refusal}
 use Rattle.history_store.specs.declared.refusal.Refusal.TheVariants as store
 use Rattle.history_store.specs.StoreValue.{StoreValue}
 use Rattle.history_store.specs.Queries.{is_listed}
+use Rattle.history_store.specs.Stored.{IsStored}
 use Rattle.blocks.proofs.Looked.{none_looks_up}
 use Rattle.history_store.specs.Answers.{CountsRefusal}
 use Rattle.line_commands.specs.declared.unread.Unread.{Unread}
 use Rattle.question_model.specs.Questions.{Question, Dates, Digest, Receipt as AskReceipt, Added, ForRows, ForIds}
-use Rattle.line_commands.specs.Commands.{Command, Ask, At, Import, Check, Pin, Unpin, Merge, Step, Publish, Status}
+use Rattle.line_commands.specs.Commands.{Command, Ask, At, Import, Check, Pin, Unpin, Merge, Step, Publish, Abandon, Trim, Status}
 use Rattle.line_commands.specs.Requests.{Asks, IsUnread}
 use Rattle.line_commands.proofs.Readings.{asked_is_read, one_reading}
 use Rattle.line_server.specs.declared.refusal.LineRefusal.{LineRefusal}
@@ -26,8 +28,9 @@ use Rattle.line_server.specs.Sources.{Releases, SourceView, source_view}
 use Rattle.line_server.specs.ReplyValue.{Answer, Done, ReplyValue, reply_value}
 use Rattle.line_server.specs.Replies.{IsUnseen, Server, imports_seen, IsFound, IsAnswer, IsAnswerAt, IsRefusalAt, IsClosed, IsLacking, IsOutOfRange, NeedsLater, Replies, receipt_of, status_of, server}
 use Rattle.store_life.specs.Life.{Other}
-use Rattle.line_server.specs.Turns.{CountsOutcome, GoesBy, HasTurn, IsToldBy, LeavesAsked, LeavesDisk}
-use Rattle.line_server.specs.StateValue.{StateValue, IsHeldBack, HoldsBack}
+use Rattle.line_server.specs.Turns.{CountsOutcome, GoesBy, HasTurn, IfRefused, IsComparedWith, IsToldBy, LeavesAsked, LeavesDisk}
+use Rattle.line_server.specs.StateValue.{StateValue, IsChange, HoldsBack, reason_of}
+use Rattle.line_server.proofs.HeldBack.{change_of, reason_compares, reason_kept, reason_counts}
 use Rattle.line_server.specs.Private.{IsResponse, IsQueried, IsCarriedOut, AsksIndex}
 use Rattle.line_server.proofs.Alike.{turn_of}
 use Rattle.store_life.proofs.Made.{unmade}
@@ -120,7 +123,7 @@ repinned state session pin = record state { pins = slice_set state.pins session 
 module _ {D : Type 0} (source : SourceView) (view : D → DiskView) (session : ℕ) (state : StateValue) (s : StoreValue D) where
   pub unpinned : (reply : ReplyValue) → reply ≡ reply_value (Ok (Done [])) → IsResponse (Ok reply) source view session Unpin (server state s) (server (repinned state session None) s)
   unpinned reply told = any_source source view (Ok reply) session Unpin (server state s) (server (repinned state session None) s)
-      (responded view (Ok reply) source.releases session Unpin (Ok (Done [])) (server state s) (server (repinned state session None) s) (λ h. h.1) (λ later. later) refl told (refl, refl) (unmade view s) refl refl (omega arith))
+      (responded view (Ok reply) source.releases session Unpin (Ok (Done [])) (server state s) (server (repinned state session None) s) (change_of state.held Unpin) (λ later. later) refl told (refl, refl) (unmade view s) refl refl (omega arith))
 
 -- ---- PIN
 
@@ -128,7 +131,7 @@ module _ {D : Type 0} (view : D → DiskView) (session : ℕ) (state : StateValu
   pub pinned : (pin : ℕ) (reply : ReplyValue) → (pin ≤ s.history.imports) × (pin ≡ unwrap_or number s.history.imports) → reply ≡ reply_value (Ok (Done (decimal pin ∷ [])))
       → IsResponse (Ok reply) (source_view (Unit {0}) has) view session (Pin number) (server state s) (server (repinned state session (Some pin)) s)
   pinned pin reply h told =
-      responded view (Ok reply) has session (Pin number) (Ok (Done (decimal pin ∷ []))) (server state s) (server (repinned state session (Some pin)) s) (λ h. h.1) (λ later. later) refl told
+      responded view (Ok reply) has session (Pin number) (Ok (Done (decimal pin ∷ []))) (server state s) (server (repinned state session (Some pin)) s) (change_of state.held (Pin number)) (λ later. later) refl told
       (answered_so number h) (unmade view s) refl refl (omega arith) where
         answered_so : (number : Option ℕ) → (pin ≤ s.history.imports) × (pin ≡ unwrap_or number s.history.imports)
             → IsAnswer (view s.disk).is_honest has session (Pin number) (Done (decimal pin ∷ [])) (server state s) (server (repinned state session (Some pin)) s)
@@ -137,7 +140,7 @@ module _ {D : Type 0} (view : D → DiskView) (session : ℕ) (state : StateValu
 
   pub out_of_range : (n : ℕ) × (number ≡ Some n) × (s.history.imports < n) → IsResponse (Err refusals.PinRange) (source_view (Unit {0}) has) view session (Pin number) (server state s) (server state s)
   out_of_range h =
-      responded view (Err refusals.PinRange) has session (Pin number) (Err refusals.PinRange) (server state s) (server state s) (λ h. h.1) (λ later. later) refl refl
+      responded view (Err refusals.PinRange) has session (Pin number) (Err refusals.PinRange) (server state s) (server state s) (change_of state.held (Pin number)) (λ later. later) refl refl
       (subst (λ (o : Option ℕ). IsOutOfRange session (Pin o) (server state s)) (sym h.1) h.2, refl) (unmade view s) refl refl (omega arith)
 
 -- ---- RECEIPT
@@ -168,9 +171,9 @@ unasked_left : {D : Type 0} (view : D → DiskView) (seen : ℕ) (question : Que
 unasked_left view seen (ForIds ids) refusal s = refl
 unasked_left view seen Dates refusal s = refl
 unasked_left view seen (AskReceipt other) refusal s = refl
-unasked_left view seen (Added number kind after limit) refusal s = ((λ h. refl, none_looks_up (is_listed s.catalog.entries) s.cache (view s.disk).bytes_read), tt, omega arith)
-unasked_left view seen Digest refusal s = ((λ h. refl, none_looks_up (is_listed s.catalog.entries) s.cache (view s.disk).bytes_read), omega arith)
-unasked_left view seen (ForRows question) refusal s = ((λ h. refl, none_looks_up (is_listed s.catalog.entries) s.cache (view s.disk).bytes_read), tt, omega arith)
+unasked_left view seen (Added number kind after limit) refusal s = ((λ h. refl, none_looks_up (is_listed s.catalog.entries) s.cache (view s.disk).bytes_read, refl), tt, omega arith)
+unasked_left view seen Digest refusal s = ((λ h. refl, none_looks_up (is_listed s.catalog.entries) s.cache (view s.disk).bytes_read, refl), omega arith)
+unasked_left view seen (ForRows question) refusal s = ((λ h. refl, none_looks_up (is_listed s.catalog.entries) s.cache (view s.disk).bytes_read, refl), tt, omega arith)
 
 -- ---- ADDED
 
@@ -270,19 +273,22 @@ module _ {D : Type 0} (source : SourceView) (view : D → DiskView) (line : List
       }
 
   module _ (session : ℕ) (command : Command) (s : Server D) (asks : Asks line session command) where
-    -- the command is held back
-    held_left : (releases : Releases) (seen : ℕ) (c : Command) → IsHeldBack c → LeavesDisk view releases seen c (Err (refusals.Store store.Damaged)) s.store s.store
-    held_left releases seen (Import name) h = (λ up. refl, none_known view releases name 1 s.store, λ release has. tt)
-    held_left releases seen (Check name) h = ((λ up. refl, none_looks_up (is_listed s.store.catalog.entries) s.store.cache (view s.store.disk).bytes_read), none_known view releases name 0 s.store, λ release has. tt)
-    held_left releases seen Merge h = refl
-    held_left releases seen (Step rows) h = (λ up. refl, (s.store.cache, none_looks_up (is_listed s.store.catalog.entries) s.store.cache (view s.store.disk).bytes_read, inl refl), (omega arith, omega arith))
-    held_left releases seen Publish h = (λ up. refl, (omega arith, omega arith))
-    held_left releases seen c h = absurd h
+    -- a change is refused, and the disk didn't fail
+    change_left : (refusal : LineRefusal) → ((so : Type 0) → so → IfRefused (Err refusal) so) → ((release : Release) → IsComparedWith (full s.store.history) (IsStored view s.store) release (Err refusal)) → (releases : Releases) (seen : ℕ) (c : Command) → IsChange c → LeavesDisk view releases seen c (Err refusal) s.store s.store
+    change_left refusal kept compared releases seen (Import name) h = (λ up. kept _ refl, none_known view releases name 1 s.store, λ release has. compared release)
+    change_left refusal kept compared releases seen (Check name) h = ((λ up. refl, none_looks_up (is_listed s.store.catalog.entries) s.store.cache (view s.store.disk).bytes_read, refl), none_known view releases name 0 s.store, λ release has. compared release)
+    change_left refusal kept compared releases seen Merge h = refl
+    change_left refusal kept compared releases seen (Step rows) h = (λ up. kept _ refl, (s.store.cache, none_looks_up (is_listed s.store.catalog.entries) s.store.cache (view s.store.disk).bytes_read, inl refl), (omega arith, omega arith))
+    change_left refusal kept compared releases seen Publish h = (λ up. kept _ refl, (omega arith, omega arith))
+    change_left refusal kept compared releases seen Abandon h = refl
+    change_left refusal kept compared releases seen Trim h = (λ up. (tt, kept _ refl), refl, omega arith)
+    change_left refusal kept compared releases seen c h = absurd h
 
-    pub held_back : HoldsBack s.met_damage command → HasTurn source view line s s (λ turn. IsToldBy (Err (refusals.Store store.Damaged)) turn.outcome)
+    -- the command is held back
+    pub held_back : HoldsBack s.held command → HasTurn source view line s s (λ turn. IsToldBy (Err (reason_of s.held)) turn.outcome)
     held_back held =
-        refused_turn session command s (refusals.Store store.Damaged) asks (λ releases. inl (session, command, asks, inl (record { held_back = held; refused = refl; unchanged = refl })))
-        (λ releases. held_left releases (imports_seen s session) command held.1) refl
+        refused_turn session command s (reason_of s.held) asks (λ releases. inl (session, command, asks, inl (record { held_back = held; refused = refl; unchanged = refl })))
+        (λ releases. change_left (reason_of s.held) (reason_kept s.held) (λ release. reason_compares s.held (full s.store.history) (IsStored view s.store) release) releases (imports_seen s session) command (change_of s.held command held)) (reason_counts s.held (view s.store.disk).failures)
 
     -- the command needs a later layout
     later_left : (releases : Releases) (seen : ℕ) (c : Command) → NeedsLater c s.store → LeavesDisk view releases seen c (Err (refusals.Store store.LaterVersion)) s.store s.store

@@ -1,5 +1,5 @@
 -- Laws of every run of lines, on an honest disk.
-use Rattle.std.specs.Prelude.{◌≡◌, ◌↔◌, ℕ, false, ◌≤◌, List, [], map, Option, Some, None}
+use Rattle.std.specs.Prelude.{◌≡◌, ◌≢◌, ◌↔◌, ℕ, false, ◌≤◌, List, [], map, Option, Some, None}
 use Rattle.std.specs.Prelude.{Result, Ok, Err, slice_index_or}
 use Rattle.disk_model.specs.View.{DiskView}
 use Rattle.std.specs.List.{AllByRecursion}
@@ -21,7 +21,9 @@ use Rattle.line_server.specs.declared.refusal.LineRefusal.{LineRefusal}
 use Rattle.line_server.specs.declared.refusal.LineRefusal.TheVariants as refusals
 use Rattle.line_server.specs.Sources.{Releases, SourceView, source_view}
 use Rattle.line_server.specs.ReplyValue.{Answer, Done}
-use Rattle.line_server.specs.StateValue.{IsHeldBack}
+use Rattle.line_commands.specs.declared.unread.Unread.TheVariants as unread
+use Rattle.line_server.specs.declared.held.Held.TheVariants as holds
+use Rattle.line_server.specs.StateValue.{IsHeldBack, IsChange}
 use Rattle.line_server.specs.Replies.{Server, Replies, IsFound, IsAskedOf, NeedsLater}
 use Rattle.line_server.specs.Replies.{receipt_of}
 use Rattle.store_life.specs.Life.{Imported, taken, Called, IsLife}
@@ -89,7 +91,7 @@ pub record AreAlike {D : Type 0} (a b : Server D) : Type 0 where
   pub history : b.store.history ≡ a.store.history
   pub catalog : without_sums b.store.catalog ≡ without_sums a.store.catalog
   pub needs_reopen : b.store.needs_reopen ≡ a.store.needs_reopen
-  pub met_damage : b.met_damage ≡ a.met_damage
+  pub held : b.held ≡ a.held
 
 -- A line has one reply in states that are equal in this sense, and leaves states that are so too.
 abbrev pub OneReply : (D : Type 0) → (D → DiskView) → Type 0
@@ -100,12 +102,14 @@ OneReply D view = (releases : Releases) (line : List ℕ) (one two : Result Answ
     → Replies (view b.store.disk).is_honest releases line two b next → IsSure one → IsSure two
     → (one ≡ two) × AreAlike after next
 
--- Once a line was answered 8, each later one that would import, check, merge or publish is answered
--- 8 too and changes nothing, whatever the disk does and whatever releases the source has.
+-- Once a line was answered 8 by a server that doesn't only read, each later one that would import,
+-- check, merge or publish is answered 8 too and changes nothing, whatever the disk does and whatever
+-- releases the source has.
 abbrev pub DamageHoldsBack : (D : Type 0) → (D → DiskView) → Type 0
 DamageHoldsBack D view =
     (has : Releases) (before mid late after : Server D) (first turn : Turn) (turns : List Turn)
     (session : ℕ) (command : Command)
+    → before.held ≢ holds.Changing
     → IsTurn (source_view ⊥ has) view before first mid
     → first.outcome ≡ Err (refusals.Store store.Damaged)
     → Run (source_view ⊥ has) view mid turns late
@@ -113,11 +117,32 @@ DamageHoldsBack D view =
     → Asks turn.line session command → IsHeldBack command
     → (turn.outcome ≡ Err (refusals.Store store.Damaged)) × (after ≡ late)
 
--- on an honest disk no damage is found, and so no line is held back there
+-- on an honest disk no damage is found, and so what is held back stays the same
 abbrev pub HonestMeetsNoDamage : (D : Type 0) → (D → DiskView) → Type 0
 HonestMeetsNoDamage D view = (has : Releases) (old new : Server D) (turns : List Turn)
-    → (view old.store.disk).is_honest → old.met_damage ≡ false
-    → Run (source_view ⊥ has) view old turns new → new.met_damage ≡ false
+    → (view old.store.disk).is_honest
+    → Run (source_view ⊥ has) view old turns new → new.held ≡ old.held
+
+-- Only reads were made on the disk, on every disk: no other call was counted, and what crashes may
+-- leave of an honest one is unchanged.
+pub record WritesNothing {D : Type 0} (view : D → DiskView) (old new : D) : Type 0 where
+  pub other_calls : (view new).other_calls ≡ (view old).other_calls
+  pub moments : (view old).is_honest → (view new).moments ≡ (view old).moments
+  pub honesty : (view old).is_honest ↔ (view new).is_honest
+
+-- A server that only reads writes nothing, on any disk, whatever lines it is sent.
+abbrev pub ReadingWritesNothing : (D : Type 0) → (D → DiskView) → Type 0
+ReadingWritesNothing D view = (has : Releases) (old new : Server D) (turns : List Turn)
+    → old.held ≡ holds.Changing → Run (source_view ⊥ has) view old turns new
+    → WritesNothing view old.store.disk new.store.disk × (new.held ≡ old.held)
+
+-- a server that only reads has none of the commands that may change the store
+abbrev pub ReadingHasNoChange : (D : Type 0) → (D → DiskView) → Type 0
+ReadingHasNoChange D view =
+    (has : Releases) (old new : Server D) (turn : Turn) (session : ℕ) (command : Command)
+    → old.held ≡ holds.Changing → IsTurn (source_view ⊥ has) view old turn new
+    → Asks turn.line session command → IsChange command
+    → (turn.outcome ≡ Err (refusals.Unread unread.Command)) × (new ≡ old)
 
 -- An IMPORT gets the reply that a CHECK of the same name just got, on an honest disk and if the
 -- source still has the same releases.

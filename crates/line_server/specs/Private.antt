@@ -16,7 +16,7 @@ use Rattle.line_server.specs.Turns.{HasTurn, IsToldBy}
 
 -- the state after a line had this result
 abbrev pub noted : {T : Type 0} → Result T LineRefusal → StateValue → StateValue
-noted result state = record state { met_damage = met_after result state.met_damage }
+noted result state = record state { held = met_after result state.held }
 
 -- some line spells the command
 abbrev pub CanBeAsked : Command → Type 0
@@ -34,7 +34,7 @@ pub record IsResponse {D : Type 0} (result : Result ReplyValue LineRefusal) (sou
 abbrev pub IsCarriedOut : {D : Type 0} → Result ReplyValue LineRefusal → (D → DiskView) → Command
     → StoreValue D → StoreValue D → Type 0
 IsCarriedOut result view command old new =
-    (has : Releases) (session : ℕ) (state : StateValue) → (HoldsBack state.met_damage command → ⊥)
+    (has : Releases) (session : ℕ) (state : StateValue) → (HoldsBack state.held command → ⊥)
     → IsResponse result (source_view (Unit {0}) has) view session command (server state old)
     (server (noted result state) new)
 

@@ -37,22 +37,22 @@ use Rattle.line_commands.specs.Requests.{Asks, IsUnread}
 use Rattle.line_server.specs.declared.refusal.LineRefusal.{LineRefusal}
 use Rattle.line_server.specs.declared.refusal.LineRefusal.TheVariants as refusals
 use Rattle.line_server.specs.Pins.{pin_of}
-use Rattle.line_server.specs.StateValue.{StateValue, HoldsBack, met_after}
+use Rattle.line_server.specs.declared.held.Held.{Held}
+use Rattle.line_server.specs.StateValue.{StateValue, HoldsBack, reason_of, met_after}
 use Rattle.line_server.specs.Sources.{Releases, scope_of}
 use Rattle.line_server.specs.ReplyValue.{Answer, Rows, Ids, Dates, Done, digits_of}
 
--- what a reply depends on: the pins of the sessions, the store, and whether a line was refused with
--- 8 (`Damaged`) since the store was opened
+-- what a reply depends on: the pins of the sessions, the store, and which commands are held back
 pub record Server (D : Type 0) : Type 0 where
   pub pins : List (Option ℕ)
   pub store : StoreValue D
-  pub met_damage : Bool
+  pub held : Held
 
 abbrev pub server : {D : Type 0} → StateValue → StoreValue D → Server D
 server state store = record {
   pins = state.pins;
   store = store;
-  met_damage = state.met_damage;
+  held = state.held;
 }
 
 -- the store is unchanged, except perhaps its disk
@@ -316,10 +316,10 @@ NamesRelease (Check name) other = other ≡ name
 NamesRelease command other = ⊥
 
 -- the line asks the source for no release: its command names none, or is held back
-abbrev pub AsksNoRelease : (line : List ℕ) (met_damage : Bool) → Type 0
-AsksNoRelease line met_damage =
+abbrev pub AsksNoRelease : (line : List ℕ) → Held → Type 0
+AsksNoRelease line held =
     (session : ℕ) (command : Command) (name : List ℕ) → Asks line session command
-    → NamesRelease command name → HoldsBack met_damage command
+    → NamesRelease command name → HoldsBack held command
 
 -- the refusal of a command, and the server after it
 abbrev pub IsRefusal : {D : Type 0} → Type 0 → Releases → ℕ → Command → LineRefusal → Server D
@@ -370,12 +370,11 @@ NeedsLater (At number question) store = (number ≤ store.history.imports)
     × (scope_of store.catalog.layout ≡ scopes.Basic) × NeedsMembers question
 NeedsLater command store = ⊥
 
--- Damage was found before, and so the command is held back: it is refused with 8, and nothing
--- changes.
-pub record IsRefusedForDamage {D : Type 0} (command : Command) (outcome : Result Answer LineRefusal)
+-- The command is held back: it is refused for that reason, and nothing changes.
+pub record IsRefusedAsHeld {D : Type 0} (command : Command) (outcome : Result Answer LineRefusal)
     (old new : Server D) : Type 0 where
-  pub held_back : HoldsBack old.met_damage command
-  pub refused : outcome ≡ Err (refusals.Store store.Damaged)
+  pub held_back : HoldsBack old.held command
+  pub refused : outcome ≡ Err (reason_of old.held)
   pub unchanged : new ≡ old
 
 -- The command needs a later layout: it is refused with 14, and nothing changes.
@@ -385,23 +384,23 @@ pub record IsRefusedForLayout {D : Type 0} (command : Command) (outcome : Result
   pub refused : outcome ≡ Err (refusals.Store store.LaterVersion)
   pub unchanged : new ≡ old
 
--- The command isn't held back, and needs no later layout. It has this outcome, which decides
--- whether damage is recorded.
+-- The command isn't held back, and needs no later layout. It has this outcome, which decides what
+-- is held back from then on.
 pub record IsPerformed {D : Type 0} (honest : Type 0) (releases : Releases) (session : ℕ)
     (command : Command) (outcome : Result Answer LineRefusal) (old new : Server D) : Type 0 where
-  pub free : HoldsBack old.met_damage command → ⊥
+  pub free : HoldsBack old.held command → ⊥
   pub has_layout : NeedsLater command old.store → ⊥
   pub comes_out : IsOutcome honest releases session command outcome old new
-  pub damage : new.met_damage ≡ met_after outcome old.met_damage
+  pub damage : new.held ≡ met_after outcome old.held
 
--- A line that spells a request is answered by the outcome of its command, or refused because damage
--- was found or a later layout is needed. Any other line is refused with the first reason why it is
+-- A line that spells a request is answered by the outcome of its command, or refused because it is
+-- held back or a later layout is needed. Any other line is refused with the first reason why it is
 -- no request, and nothing changes.
 abbrev pub Replies : {D : Type 0} → Type 0 → Releases → List ℕ → Result Answer LineRefusal
     → Server D → Server D → Type 0
 Replies honest releases text outcome old new =
     ((session : ℕ) × (command : Command) × Asks text session command
-    × (IsRefusedForDamage command outcome old new ⊎ IsRefusedForLayout command outcome old new
+    × (IsRefusedAsHeld command outcome old new ⊎ IsRefusedForLayout command outcome old new
     ⊎ IsPerformed honest releases session command outcome old new))
     ⊎
     ((reason : Unread) × IsUnread text reason × (outcome ≡ Err (refusals.Unread reason))

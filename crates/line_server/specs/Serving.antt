@@ -8,7 +8,8 @@ use Rattle.history_store.specs.StoreValue.{StoreValue}
 use Rattle.line_server.specs.declared.serving.ServeFault.{ServeFault}
 use Rattle.line_server.specs.declared.serving.ServeFault.TheVariants as faults
 use Rattle.line_server.specs.Sources.{SourceView}
-use Rattle.line_server.specs.StateValue.{StateValue, fresh}
+use Rattle.line_server.specs.declared.held.Held.{Held}
+use Rattle.line_server.specs.StateValue.{StateValue, fresh_holding}
 use Rattle.line_server.specs.Replies.{server}
 use Rattle.line_server.specs.Turns.{Turn, Run, lines_asked, replies}
 use Rattle.line_server.specs.Streams.{Streams, ends_in}
@@ -73,14 +74,14 @@ AreReads (Err faults.Read) most reads answered = PiecesThen Failed reads
 AreReads (Err faults.Write) most reads answered = AreReadToLine answered reads
 AreReads (Err faults.Reads) most reads answered = All IsPiece reads × (length reads ≡ most)
 
--- Lines were answered in order, beginning with no session pinned and no damage found. If the input
+-- Lines were answered in order, beginning with no session pinned and with these held back. If the input
 -- is known, they are its lines; if the output is known, their replies were written; and if the
 -- reads are known, exactly these were made.
-pub record IsServed {D : Type 0} (result : Result ℕ ServeFault) (most : ℕ) (source : SourceView)
-    (view : D → DiskView) (streams : Streams) (before after : StoreValue D) : Type 0 where
+pub record IsServed {D : Type 0} (result : Result ℕ ServeFault) (most : ℕ) (held : Held)
+    (source : SourceView) (view : D → DiskView) (streams : Streams) (before after : StoreValue D) : Type 0 where
   pub turns : List Turn
   pub state : StateValue
-  pub run : Run source view (server fresh before) turns (server state after)
+  pub run : Run source view (server (fresh_holding held) before) turns (server state after)
   pub lines : IfSome streams.input (AreLines result (lines_asked turns))
   -- no read returns more than 4,096 bytes
   pub read : (came : List ℕ) × Consumes streams.input streams.rest came

@@ -1,30 +1,39 @@
 -- The state that a server keeps between lines, besides its store, and which commands it holds back.
-use Rattle.std.specs.Prelude.{◌≡◌, ℕ, Bool, true, false, List, Option, Result, Ok, Err}
+use Rattle.std.specs.Prelude.{◌≡◌, ℕ, List, Option, Result, Ok, Err}
 use Rattle.history_store.specs.declared.refusal.Refusal.TheVariants as store
-use Rattle.line_commands.specs.Commands.{Command, Import, Check, Merge, Step, Publish}
+use Rattle.line_commands.specs.Commands.{Command, Import, Check, Merge, Step, Publish, Abandon}
+use Rattle.line_commands.specs.Commands.{Trim}
+use Rattle.line_commands.specs.declared.unread.Unread.TheVariants as unread
 use Rattle.line_server.specs.declared.refusal.LineRefusal.{LineRefusal}
 use Rattle.line_server.specs.declared.refusal.LineRefusal.TheVariants as refusals
+use Rattle.line_server.specs.declared.held.Held.{Held}
+use Rattle.line_server.specs.declared.held.Held.TheVariants as holds
 use Rattle.line_server.specs.Pins.{unpinned}
 
 pub record StateValue : Type 0 where
   -- the pin of each session, if it has one
   pub pins : List (Option ℕ)
-  -- a line was refused with 8 (`Damaged`) since the store was opened
-  pub met_damage : Bool
+  -- which commands are held back
+  pub held : Held
 
--- the initial state: no session is pinned, and no damage was found
+-- the initial state of a server that holds these commands back: no session is pinned
+abbrev pub fresh_holding : Held → StateValue
+fresh_holding held = record { pins = unpinned; held = held }
+
+-- the initial state: no session is pinned, and nothing is held back
 abbrev pub fresh : StateValue
-fresh = record { pins = unpinned; met_damage = false }
+fresh = fresh_holding holds.Nothing
 
--- whether damage was found, after a line was refused for this reason
-abbrev pub met_by : LineRefusal → Bool → Bool
-met_by (refusals.Store store.Damaged) met = true
-met_by refusal met = met
+-- What is held back, after a line was refused for this reason. A server that only reads holds back
+-- everything that it would hold back after damage.
+abbrev pub met_by : LineRefusal → Held → Held
+met_by (refusals.Store store.Damaged) holds.Nothing = holds.Confirming
+met_by refusal held = held
 
--- whether damage was found, after a line had this result
-abbrev pub met_after : {T : Type 0} → Result T LineRefusal → Bool → Bool
-met_after (Ok x) met = met
-met_after (Err refusal) met = met_by refusal met
+-- what is held back, after a line had this result
+abbrev pub met_after : {T : Type 0} → Result T LineRefusal → Held → Held
+met_after (Ok x) held = held
+met_after (Err refusal) held = met_by refusal held
 
 -- The commands that are held back once damage was found: each builds on rows of the store, and
 -- would confirm results that rest on bytes which may not be what was written. ABANDON and TRIM
@@ -38,6 +47,21 @@ IsHeldBack (Step rows) = Unit {0}
 IsHeldBack Publish = Unit {0}
 IsHeldBack command = ⊥
 
+-- The commands that a server which only reads doesn't have: those that may change the store, and
+-- CHECK, which says what an import of it would be answered.
+abbrev pub IsChange : Command → Type 0
+IsChange Abandon = Unit {0}
+IsChange Trim = Unit {0}
+IsChange command = IsHeldBack command
+
 -- the command is held back: it is refused, and nothing changes
-abbrev pub HoldsBack : (met_damage : Bool) → Command → Type 0
-HoldsBack met_damage command = (met_damage ≡ true) × IsHeldBack command
+abbrev pub HoldsBack : Held → Command → Type 0
+HoldsBack holds.Nothing command = ⊥
+HoldsBack holds.Confirming command = IsHeldBack command
+HoldsBack holds.Changing command = IsChange command
+
+-- Why a command that is held back is refused: damage was found, or the server has no such command,
+-- since it only reads.
+abbrev pub reason_of : Held → LineRefusal
+reason_of holds.Changing = refusals.Unread unread.Command
+reason_of held = refusals.Store store.Damaged

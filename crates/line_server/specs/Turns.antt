@@ -31,6 +31,7 @@ use Rattle.line_server.specs.declared.refusal.LineRefusal.{LineRefusal}
 use Rattle.line_server.specs.declared.refusal.LineRefusal.TheVariants as refusals
 use Rattle.line_server.specs.Sources.{Releases, SourceView, scope_of}
 use Rattle.line_server.specs.ReplyValue.{Answer, Rows, ReplyValue, reply_value, bytes_of}
+use Rattle.line_server.specs.declared.held.Held.{Held}
 use Rattle.line_server.specs.StateValue.{met_after}
 use Rattle.line_server.specs.Replies.{Server, Replies, AsksNoRelease, imports_seen}
 use Rattle.store_life.specs.Life.{Call, Imported, Failed, Other, IsCall}
@@ -72,11 +73,11 @@ CostsAtMost bytes calls old new =
     AtMost bytes old.bytes_read new.bytes_read × AtMost calls old.other_calls new.other_calls
 
 -- Reading through the cache doesn't change what a crash may leave of an honest disk. On every disk
--- only blocks of listed segments are read, and none that is cached.
+-- only blocks of listed segments are read, and none that is cached, and no call but reads is made.
 abbrev pub LeavesQueried : {D : Type 0} → (D → DiskView) → StoreValue D → StoreValue D → Type 0
 LeavesQueried view old new =
     ((view old.disk).is_honest → (view new.disk).moments ≡ (view old.disk).moments)
-    × ReadsThroughCache view old new
+    × ReadsThroughCache view old new × ((view new.disk).other_calls ≡ (view old.disk).other_calls)
 
 -- the rows of an answer are read from the disk: each is stored there, with the key of a wanted one,
 -- as `AreFor` says, and no more is read than they take
@@ -225,11 +226,11 @@ Run {D} source view old (turn ∷ turns) new =
     (mid : Server D) × IsTurn source view old turn mid × Run source view mid turns new
 
 -- None of the lines asks the source for a release: none names one, unless it is held back. The
--- first argument says whether damage was found before them.
-abbrev pub AskNoRelease : (met_damage : Bool) → List Turn → Type 0
-AskNoRelease met_damage [] = Unit {0}
-AskNoRelease met_damage (turn ∷ turns) = AsksNoRelease turn.line met_damage
-    × AskNoRelease (met_after turn.outcome met_damage) turns
+-- first argument says what is held back before them.
+abbrev pub AskNoRelease : Held → List Turn → Type 0
+AskNoRelease held [] = Unit {0}
+AskNoRelease held (turn ∷ turns) = AsksNoRelease turn.line held
+    × AskNoRelease (met_after turn.outcome held) turns
 
 abbrev pub lines_asked : List Turn → List (List ℕ)
 lines_asked turns = map (λ turn. turn.line) turns

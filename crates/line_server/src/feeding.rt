@@ -36,7 +36,7 @@ pub(crate) fn answer_line<W: Write, S: Source, D: Disk>(
         (server state.old store.old) (server state.new store.new)
         (λ turn. IsPut result (W.contents writer.old) (W.contents writer.new)
         (bytes_of (reply_value turn.outcome))) }
-    ensures unasked { AsksNoRelease line.now state.old.met_damage → source.new ≡ source.old }
+    ensures unasked { AsksNoRelease line.now state.old.held → source.new ≡ source.old }
     ensures source { S.is_honest source.old → S.is_honest source.new }
     ensures stays { S.is_honest source.old → S.releases source.new ≡ S.releases source.old }
 {
@@ -67,7 +67,7 @@ pub fn feed<W: Write, S: Source, D: Disk>(
         (source_view (S.is_honest source.old) (S.releases source.old)) D.view
         (intake part piece.now line.new (W.contents writer.old) (W.contents writer.new))
         (server state.old store.old) (server state.new store.new))
-        × (AskNoRelease state.old.met_damage taken.turns → source.new ≡ source.old) }
+        × (AskNoRelease state.old.held taken.turns → source.new ≡ source.old) }
     ensures source { S.is_honest source.old → S.is_honest source.new }
     ensures stays { S.is_honest source.old → S.releases source.new ≡ S.releases source.old }
 {

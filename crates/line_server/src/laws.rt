@@ -7,6 +7,7 @@ ghost use Rattle.line_server.specs.Laws.{OkIsImported, RefusedIsNotImported, Imp
 ghost use Rattle.line_server.specs.Laws.{RunNeedsNoSource};
 ghost use Rattle.line_server.specs.Laws.{CheckForetells, DamageHoldsBack, HonestMeetsNoDamage};
 ghost use Rattle.line_server.specs.Laws.{OnlyMembersNeedLater};
+ghost use Rattle.line_server.specs.Laws.{ReadingHasNoChange, ReadingWritesNothing};
 ghost use Rattle.line_server.specs.Laws.{RunKeepsPin, PinnedSeesItsImports, PinnedSeesItsReceipts};
 ghost use Rattle.line_server.specs.Laws.{PinnedRunsAreUndisturbed, PinnedReceiptsAreUndisturbed};
 
@@ -56,6 +57,18 @@ pub fn damage_holds_back<D: Disk>()
 pub fn honest_meets_no_damage<D: Disk>()
     // promise: nothing_is_confirmed_after_damage
     ensures { HonestMeetsNoDamage D D.view }
+{}
+
+/// A server that only reads writes nothing, on any disk.
+pub fn reading_writes_nothing<D: Disk>()
+    // promise: a_question_changes_nothing
+    ensures { ReadingWritesNothing D D.view }
+{}
+
+/// A server that only reads has none of the commands that may change the store.
+pub fn reading_has_no_change<D: Disk>()
+    // promise: a_question_changes_nothing
+    ensures { ReadingHasNoChange D D.view }
 {}
 
 /// If the source gives no members of reference sets when it is asked for the basic files, exactly

@@ -1,6 +1,6 @@
 //! Serves an input: reads lines and writes replies.
 
-ghost use Rattle.std.specs.Prelude.{◌≡◌, IsErrOf, false};
+ghost use Rattle.std.specs.Prelude.{◌≡◌, IsErrOf};
 ghost use Rattle.line_server.specs.Sources.{source_view};
 ghost use Rattle.line_server.specs.declared.serving.ServeFault.TheVariants.{OutOfMemory};
 ghost use Rattle.line_server.specs.Serving.{IsServed};
@@ -9,6 +9,7 @@ ghost use Rattle.line_server.specs.Turns.{AskNoRelease};
 
 use crate::buffer::LineBuffer;
 use crate::feeding::{answer_line, feed};
+use crate::held::Held;
 use crate::pieces::PieceReader;
 use crate::source::Source;
 use crate::state::ServerState;
@@ -38,7 +39,8 @@ pub enum ServeFault {
 /// Answers the lines of the input in order, writes the reply to each before it answers the next,
 /// and returns how many were answered. Makes at most `max_reads` reads, of up to 4,096 bytes each,
 /// and keeps up to 4,098 bytes of the current line. The bytes of a read are passed to `feed` before
-/// the next read, and no read is made after one that returned the end of the input or failed.
+/// the next read, and no read is made after one that returned the end of the input or failed. What
+/// `held` says is held back from the first line on.
 pub fn serve<R: PieceReader, W: Write, S: Source, D: Disk>(
     alloc: Global,
     reader: &mut R,
@@ -46,15 +48,16 @@ pub fn serve<R: PieceReader, W: Write, S: Source, D: Disk>(
     source: &mut S,
     store: &mut Store<D>,
     max_reads: u32,
+    held: Held,
 ) -> Result<u64, ServeFault>
     // The source is unchanged if none of the lines asks it for a release.
     // promise: a_question_reads_only_its_rows, a_confirmed_import_survives
     // promise: replies_come_in_the_order_of_lines
-    ensures served { (done : IsServed result max_reads
+    ensures served { (done : IsServed result max_reads held
         (source_view (S.is_honest source.old) (S.releases source.old)) D.view
         (with_reads (streams (R.remaining reader.old) (R.remaining reader.new)
         (W.contents writer.old) (W.contents writer.new)) (R.reads reader.old) (R.reads reader.new))
-        store.old store.new) × (AskNoRelease false done.turns → source.new ≡ source.old) }
+        store.old store.new) × (AskNoRelease held done.turns → source.new ≡ source.old) }
     // The buffer is allocated before anything else is done.
     // promise: replies_come_in_the_order_of_lines
     ensures memory { IsErrOf result OutOfMemory
@@ -66,7 +69,7 @@ pub fn serve<R: PieceReader, W: Write, S: Source, D: Disk>(
     let Ok(mut line) = LineBuffer::new(alloc) else {
         return Err(ServeFault::OutOfMemory);
     };
-    let mut state = ServerState::new();
+    let mut state = ServerState::new(held);
     let mut piece = [0u8; 4096];
     let mut served = 0u64;
     for _reads in 0..max_reads {

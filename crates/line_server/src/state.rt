@@ -3,19 +3,20 @@
 ghost use Rattle.std.specs.Prelude.{◌≡◌, ◌<◌, ℕ, IsTrue, ◌↔◌, slice_set};
 ghost use Rattle.line_commands.specs.Requests.{command_of, sessions};
 ghost use Rattle.line_server.specs.Pins.{AreWithin, pin_of};
-ghost use Rattle.line_server.specs.StateValue.{fresh, met_by, HoldsBack};
+ghost use Rattle.line_server.specs.StateValue.{fresh_holding, met_by, reason_of, HoldsBack};
 
+use crate::held::Held;
 use crate::refusal::LineRefusal;
 use history_store::Refusal;
-use line_commands::{Command, SESSIONS};
+use line_commands::{Command, SESSIONS, Unread};
 use std::marker::Model;
 
-/// The pin of each session, if it has one, and whether damage was found. It is valid for one
+/// The pin of each session, if it has one, and which commands are held back. It is valid for one
 /// opening of a store: whoever opens the store again makes a new one.
 #[derive(Drop)]
 pub struct ServerState {
     pins: [Option<u32>; SESSIONS],
-    met_damage: bool,
+    held: Held,
 }
 
 impl Model for ServerState {
@@ -25,22 +26,22 @@ impl Model for ServerState {
 
     ghost Value = { StateValue };
 
-    ghost view = { λ s. record { pins = s.pins; met_damage = s.met_damage } };
+    ghost view = { λ s. record { pins = s.pins; held = s.held } };
 
     ghost invariant = { λ s. length s.pins ≡ sessions };
 }
 
 impl ServerState {
-    /// The initial state: no session is pinned, and no damage was found.
-    pub fn new() -> ServerState
+    /// The initial state of a server that holds these commands back: no session is pinned.
+    pub fn new(held: Held) -> ServerState
         // promise: a_session_is_not_disturbed
-        ensures value { result ≡ fresh }
+        ensures value { result ≡ fresh_holding held }
         // promise: a_session_is_not_disturbed
         ensures within { (imports : ℕ) → AreWithin imports result.pins }
     {
         ServerState {
             pins: [None; SESSIONS],
-            met_damage: false,
+            held,
         }
     }
 
@@ -63,26 +64,37 @@ impl ServerState {
         self.pins[session as usize] = pin;
     }
 
-    /// Whether the command is held back, because damage was found.
+    /// Whether the command is held back.
     pub(crate) fn holds_back(&self, command: &Command<'_>) -> bool
-        ensures { IsTrue result ↔ HoldsBack self.now.met_damage (command_of command.now) }
+        ensures { IsTrue result ↔ HoldsBack self.now.held (command_of command.now) }
     {
         match command {
             Command::Import { .. }
             | Command::Check { .. }
             | Command::Merge
             | Command::Step { .. }
-            | Command::Publish => self.met_damage,
+            | Command::Publish => self.held != Held::Nothing,
+            Command::Abandon | Command::Trim => self.held == Held::Changing,
             _ => false,
+        }
+    }
+
+    /// Why a command that is held back is refused.
+    pub(crate) fn reason(&self) -> LineRefusal
+        ensures { result ≡ reason_of self.now.held }
+    {
+        match self.held {
+            Held::Changing => LineRefusal::Unread(Unread::Command),
+            Held::Nothing | Held::Confirming => LineRefusal::Store(Refusal::Damaged),
         }
     }
 
     /// Records whether a line was refused because of damage.
     pub(crate) fn note(&mut self, refusal: LineRefusal)
-        ensures { self.new ≡ record self.old { met_damage = met_by refusal self.old.met_damage } }
+        ensures { self.new ≡ record self.old { held = met_by refusal self.old.held } }
     {
-        if refusal == LineRefusal::Store(Refusal::Damaged) {
-            self.met_damage = true;
+        if refusal == LineRefusal::Store(Refusal::Damaged) && self.held == Held::Nothing {
+            self.held = Held::Confirming;
         }
     }
 }

@@ -2,7 +2,7 @@
 
 sctd-hub --program SCTD --store FILE --releases DIR [--socket PATH]
          [--questions PATH [--group NAME]] [--merge-above N] [--connections-a-user N]
-         [--make-store] [--config FILE]
+         [--read-only | --make-store] [--config FILE]
 
 The hub starts `sctd serve` and listens on the sockets, of which there has to be one. Each
 connection is a session of its own: a client sends lines without the session's number, such as
@@ -33,6 +33,9 @@ On the socket of `--questions` a user has at most so many connections as `--conn
 says (250 if it isn't said), and one that says nothing for ten minutes is closed. The socket that an
 earlier hub left behind is replaced. Anything else at its path, such as a file or the socket of a
 program that runs, stays, and the hub ends with status 1.
+
+With `--read-only` the program only reads FILE, which others may do too, as a second hub on the
+copy that a reader has; there is only the socket of `--questions` then.
 
 With `--make-store` a first start makes the store: where there is no FILE, and nothing but folders
 is beside it. Options may also stand in the table `[hub]` of the file of `--config`. Standard
@@ -142,8 +145,8 @@ async def serve(options: argparse.Namespace) -> int:
     if options.make_store:
         opening.make(options.program, options.store)
     opening.drop_pages(options.store)
-    program = await Program.start(
-        [options.program, "serve", "--store", options.store, "--releases", options.releases])
+    words = [options.program, "serve", "--store", options.store, "--releases", options.releases]
+    program = await Program.start(words + ["--read-only"] * options.read_only)
     try:
         status = await program.opened()
     except ProgramEndedError as ended:
@@ -198,11 +201,15 @@ def options_of(words: list[str]) -> argparse.Namespace:
                         help="how many segments may stand until the hub merges")
     parser.add_argument("--connections-a-user", type=connections_of, default=MOST_A_USER,
                         metavar="N", help="how many a user may have on the socket of --questions")
+    parser.add_argument("--read-only", action="store_true",
+                        help="only reads the store, so that others may read it too")
     parser.add_argument("--make-store", action="store_true",
                         help="makes the store if its folder has nothing but folders")
     options = settings.parsed(parser, "hub", words)
     if not options.socket and not options.questions:
         parser.error("--socket or --questions has to be given")
+    if options.read_only and (options.socket or options.make_store):
+        parser.error("--read-only goes with --questions alone")
     if options.socket == options.questions:
         parser.error("--socket and --questions are the same path")
     if options.group is not None and not options.questions:

@@ -4,7 +4,7 @@ use crate::lines::releases::Examples;
 use crate::lines::spoiled::Spoiled;
 use disk_model::MemDisk;
 use history_store::{Refusal, Store};
-use line_server::{ServeFault, serve};
+use line_server::{Held, ServeFault, serve};
 use std::alloc::Global;
 use std::io::{Read, Write};
 
@@ -58,6 +58,7 @@ impl Server {
             &mut Examples,
             &mut self.store,
             reads,
+            Held::Nothing,
         )
     }
 

@@ -1,8 +1,10 @@
-use Rattle.std.proofs.Common.{sym, ◌∙◌}
+use Rattle.std.proofs.Common.{Err, sym, subst, ◌∙◌}
 use Rattle.std.proofs.lemmas.Bool.{false≢true}
 use Rattle.line_server.specs.Sources.{source_view}
 use Rattle.line_commands.specs.Requests.{command_of}
+use Rattle.line_server.specs.declared.refusal.LineRefusal.{LineRefusal}
 use Rattle.line_server.specs.Replies.{server}
+use Rattle.line_server.specs.Turns.{HasTurn, IsToldBy}
 use Rattle.line_server.proofs.Responding.{nothing_asked, held_back, for_later}
 use Rattle.line_server.proofs.answering.carry_out.Goals as goal
 
@@ -36,7 +38,9 @@ returns-in-Err-respond-clause-unasked g c = λ line reads only.
 pub returns-then-holds_back-clause-turn : goal.returns-then-holds_back-clause-turn
 returns-then-holds_back-clause-turn g c = λ line reads.
     let asks = rw c.in-Ok.is at reads in
-    held_back (source_view (g.S.Source.is_honest c.args.source.now) (g.S.Source.releases c.args.source.now)) g.D.Disk.view line c.in-Ok.request.session (command_of c.in-Ok.request.command) (server c.args.state.now c.args.store.now) asks (c.holds_back.ensures.0 c.if-holds_back.true)
+    let asked = (source_view (g.S.Source.is_honest c.args.source.now) (g.S.Source.releases c.args.source.now)) in
+    let state = server c.args.state.now c.args.store.now in
+    subst (λ (refusal : LineRefusal). HasTurn asked g.D.Disk.view line state state (λ turn. IsToldBy (Err refusal) turn.outcome)) (sym c.reason.ensures) (held_back asked g.D.Disk.view line c.in-Ok.request.session (command_of c.in-Ok.request.command) state asks (c.holds_back.ensures.0 c.if-holds_back.true))
 
 pub returns-then-needs_later-clause-turn : goal.returns-then-needs_later-clause-turn
 returns-then-needs_later-clause-turn g c = λ line reads.

@@ -23,7 +23,7 @@ returns-in-Err-clause-fed g c =
     let line_is = rw c.ended.ensures at step.1 in
     let turn = turn_on _ _ _ _ step.0 _ line_is step.2 in
     let gives = turn_now step.0.outcome step.0.call _ _ source g.D.Disk.view _ _ i.2 turn in
-    let unasked = unasked_on _ _ c.loop-byte.state.met_damage c.ended.ensures c.answer_line-replied.ensures.unasked in
+    let unasked = unasked_on _ _ c.loop-byte.state.held c.ended.ensures c.answer_line-replied.ensures.unasked in
     λ part free is.
     not_replied source g.D.Disk.view _ _ _ _ part piece free _ _ _ (take at piece) (drop (at + 1) piece) _ _ _ step.0.outcome step.0.call
     (i.0 part free is)
@@ -51,7 +51,7 @@ loop-byte-preserved g c =
           let line_is = rw w.ended.ensures at step.served.1 in
           let turn = turn_on _ _ _ _ step.served.0 _ line_is step.served.2 in
           let gives = turn_now step.served.0.outcome step.served.0.call _ _ source g.D.Disk.view _ _ i.2 turn in
-          let unasked = unasked_on _ _ c.loop-byte.state.met_damage w.ended.ensures step.unasked in (
+          let unasked = unasked_on _ _ c.loop-byte.state.held w.ended.ensures step.unasked in (
             λ part free is. rw (w.writer-is, w.state-is, w.store-is, w.source-is, w.line-is, w.clear.ensures, w.answered-is, w.saturating_add-answered.ensures, ← next_seen part piece at 10 c.loop-byte-test.true w.if-byte-eq10.true)
                 (line_more source g.D.Disk.view step.served.0.outcome step.served.0.call _ _ _ _ _ _ (part ++ take at piece) _ _ (i.0 part free is) gives (λ none so. unasked none ∙ so) (rw w.in-Ok.is at step.served.3)),
             rw (w.state-is, w.store-is) step.pins,

@@ -19,14 +19,14 @@ pub returns-in-Err-clause-served : goal.returns-in-Err-clause-served
 returns-in-Err-clause-served g c =
     let source = source_view (g.S.Source.is_honest c.args.source.now) (g.S.Source.releases c.args.source.now) in
     let i = c.loop-reads.invariant in
-    unread source g.D.Disk.view _ _ _ _ _ _ _ _ _ _ _ i.0 _ _ i.3 (Consumes-kept _ _ _ i.0 i.2 c.in-Err.ensures.bytes) (few_before _ _ _ i.8 c.loop-reads-test.true)
+    unread source g.D.Disk.view _ _ _ _ _ _ _ _ _ _ _ _ i.0 _ _ i.3 (Consumes-kept _ _ _ i.0 i.2 c.in-Err.ensures.bytes) (few_before _ _ _ i.8 c.loop-reads-test.true)
     i.1 i.11 i.12 (makes_more _ _ _ i.1 _ i.10 c.in-Err.ensures.made) (omega (arith, i.13, c.loop-reads-test.true))
 
 pub returns-clause-served : goal.returns-clause-served
 returns-clause-served g c =
     let source = source_view (g.S.Source.is_honest c.args.source.now) (g.S.Source.releases c.args.source.now) in
     let i = c.loop-reads.invariant in
-    stopped source g.D.Disk.view _ _ _ _ _ _ _ _ _ _ _ i.0 _ _ i.3 i.2 (few_bytes _ _ _ i.8 i.9) i.1 i.11 i.12 (omega (arith, i.4, c.loop-reads-test.false)) i.10 (omega (arith, i.9, i.13, c.loop-reads-test.false))
+    stopped source g.D.Disk.view _ _ _ _ _ _ _ _ _ _ _ _ i.0 _ _ i.3 i.2 (few_bytes _ _ _ i.8 i.9) i.1 i.11 i.12 (omega (arith, i.4, c.loop-reads-test.false)) i.10 (omega (arith, i.9, i.13, c.loop-reads-test.false))
 
 pub returns-then-is_empty-clause-served : goal.returns-then-is_empty-clause-served
 returns-then-is_empty-clause-served g c =
@@ -36,7 +36,7 @@ returns-then-is_empty-clause-served g c =
     let makes = makes_end _ _ _ i.1 c.in-Ok-read.n c.read.new.piece i.10 c.in-Ok-read.ensures.made c.if-n-eq0.true in
     let lt : length i.1 < c.args.max_reads = omega (arith, i.13, c.loop-reads-test.true) in
     let none : length c.as_bytes.result.now ≡ 0 = eqb-true _ _ (sym c.is_empty.ensures ∙ c.if-is_empty.true) in
-    ended source g.D.Disk.view _ _ _ _ _ _ _ _ _ _ _ i.0 _ _ i.3 e.0 (few_before _ _ _ i.8 c.loop-reads-test.true) i.1 i.11 i.12 e.1 makes lt (ap length (sym c.as_bytes.ensures) ∙ none)
+    ended source g.D.Disk.view _ _ _ _ _ _ _ _ _ _ _ _ i.0 _ _ i.3 e.0 (few_before _ _ _ i.8 c.loop-reads-test.true) i.1 i.11 i.12 e.1 makes lt (ap length (sym c.as_bytes.ensures) ∙ none)
 
 pub returns-then-n-eq0-clause-served : goal.returns-then-n-eq0-clause-served
 returns-then-n-eq0-clause-served g c =
@@ -50,12 +50,12 @@ returns-then-n-eq0-clause-served g c =
     let line_is = rw c.as_bytes-then-n-eq0.ensures at step.1 in
     let turn = turn_on _ _ _ _ step.0 _ line_is step.2 in
     let gives = turn_now step.0.outcome step.0.call _ _ source g.D.Disk.view _ _ i.7 turn in
-    let unasked = unasked_on _ _ c.loop-reads.state.met_damage c.as_bytes-then-n-eq0.ensures c.answer_line.ensures.unasked in
+    let unasked = unasked_on _ _ c.loop-reads.state.held c.as_bytes-then-n-eq0.ensures c.answer_line.ensures.unasked in
     elim c.match-answer_line.branch [
       | in-Ok-answer_line w ↦ rw (w.result-is, w.saturating_add.ensures)
-          (ended_within source g.D.Disk.view _ _ _ _ _ _ _ _ _ _ _ i.0 _ _ i.3 e.0 (few_before _ _ _ i.8 c.loop-reads-test.true) i.1 i.11 i.12 e.1 makes lt step.0.outcome step.0.call _ _ _ some gives (λ none so. unasked none ∙ so) (rw w.in-Ok-answer_line.is at step.3))
+          (ended_within source g.D.Disk.view _ _ _ _ _ _ _ _ _ _ _ _ i.0 _ _ i.3 e.0 (few_before _ _ _ i.8 c.loop-reads-test.true) i.1 i.11 i.12 e.1 makes lt step.0.outcome step.0.call _ _ _ some gives (λ none so. unasked none ∙ so) (rw w.in-Ok-answer_line.is at step.3))
       | in-Err-answer_line w ↦ rw w.result-is
-          (unwritten_within source g.D.Disk.view _ _ _ _ _ _ _ _ _ _ _ i.0 _ _ i.3 e.0 (few_before _ _ _ i.8 c.loop-reads-test.true) i.1 i.11 i.12 e.1 makes lt step.0.outcome step.0.call _ _ _ some gives (λ none so. unasked none ∙ so) (rw w.in-Err-answer_line.is at step.3))
+          (unwritten_within source g.D.Disk.view _ _ _ _ _ _ _ _ _ _ _ _ i.0 _ _ i.3 e.0 (few_before _ _ _ i.8 c.loop-reads-test.true) i.1 i.11 i.12 e.1 makes lt step.0.outcome step.0.call _ _ _ some gives (λ none so. unasked none ∙ so) (rw w.in-Err-answer_line.is at step.3))
     ]
 
 pub returns-in_default-clause-served : goal.returns-in_default-clause-served
@@ -91,7 +91,7 @@ returns-in-Err-feed-clause-served g c =
     let long : length c.read.new.piece ≡ 4096 = omega (arith, i.5, c.read.auto.piece) in
     let came = take c.in-Ok-read.n c.read.new.piece in
     let f = fed_now source g.D.Disk.view _ i.7 _ _ _ _ (rw c.in-Err-feed.is at (c.feed.ensures.fed i.3.part i.3.cut.free i.3.buffer_is)) in
-    unwritten source g.D.Disk.view _ _ _ _ _ _ _ _ _ _ _ _ _ _ i.0 _ came _ _ i.3 f (λ step so. step ∙ so)
+    unwritten source g.D.Disk.view _ _ _ _ _ _ _ _ _ _ _ _ _ _ _ i.0 _ came _ _ i.3 f (λ step so. step ∙ so)
     (Consumes-trans _ _ _ _ _ i.2 c.in-Ok-read.ensures.bytes.0)
     (few_after (length (i.0 ++ came)) _ _ (few_more i.0 came _ i.8 (few_taken c.in-Ok-read.n c.read.new.piece long)) c.loop-reads-test.true)
     (few_taken c.in-Ok-read.n c.read.new.piece long)
