@@ -130,10 +130,16 @@ module _ {T D : Type 0} (view : D → DiskView) (rows_of : T → List RowValue) 
         → ((segment : ℕ) (at : RowPlace) (row : StampedRow) → MayBe (view disk).reads_as cache left segment at row → MayBe (view lent).reads_as lent_cache entries segment at row)
         → (row : RowValue) → IsStored view new row → IsStored view old row
     steady_after left lent_is lent_cache_is entries_are left_is same kept catalog steady row s =
-        stored_so view old lent lent_cache entries lent_is lent_cache_is entries_are row (s.0, s.1, s.2, s.3, steady s.2 s.3 s.0
-            (subst (λ (e : List Entry). MayBe (view disk).reads_as cache e s.2 s.3 s.0) (ap (λ (c : Catalog). c.entries) catalog ∙ sym entries_are ∙ sym left_is)
-            (subst (λ c. MayBe (view disk).reads_as c new.catalog.entries s.2 s.3 s.0) kept
-            (subst (λ d. MayBe (view d).reads_as new.cache new.catalog.entries s.2 s.3 s.0) same s.4))))
+        stored_so view old lent lent_cache entries lent_is lent_cache_is entries_are row (
+          s.0,
+          s.1,
+          s.2,
+          s.3,
+          steady s.2 s.3 s.0
+              (subst (λ (e : List Entry). MayBe (view disk).reads_as cache e s.2 s.3 s.0) (ap (λ (c : Catalog). c.entries) catalog ∙ sym entries_are ∙ sym left_is)
+              (subst (λ c. MayBe (view disk).reads_as c new.catalog.entries s.2 s.3 s.0) kept
+              (subst (λ d. MayBe (view d).reads_as new.cache new.catalog.entries s.2 s.3 s.0) same s.4))),
+        )
 
     pub rows_answered : (put_in_order : Bool) {left : List (List StampedRow)} {is_honest : Type 0} {left_entries : List Entry} {m n : ℕ} → left_entries ≡ entries → old.history.rows ≡ listed lists → old.needs_reopen ≡ false
         → lent ≡ old.disk → lent_cache ≡ old.cache → entries ≡ old.catalog.entries → shown ≡ lists

@@ -56,10 +56,10 @@ for_none IsFor (row ∷ rows) each = absurd each
 fed_all : (honest : Type 0) (IsFor : RowValue → RowValue → Type 0) (hasher more : Sha256) (last : Option Key) (rows : List RowValue) (fed : IsFed honest IsFor hasher last rows) → AreHashed honest IsFor (rows_after last 1 rows) hasher more → filter (is_after last) rows ≡ [] → rows_after last 1 rows ≡ []
     → Holds256 more (text_of fed.done) × (IsAscending row_cmp rows → fed.taken ≡ rows)
 fed_all honest IsFor hasher more last rows fed hashed none no_next = (
-      subst (Holds256 more) (append-nil (text_of fed.done))
-          (subst (λ ys. Holds256 more (text_of fed.done ++ text_of ys)) (for_none IsFor hashed.read (subst (λ (ys : List RowValue). AreFor false IsFor hashed.read ys) no_next hashed.each)) (hashed.holds (text_of fed.done) fed.holds)),
-      λ in_order. sym (append-nil fed.taken) ∙ ap (λ ys. fed.taken ++ ys) (sym none) ∙ fed.left in_order,
-    )
+  subst (Holds256 more) (append-nil (text_of fed.done))
+      (subst (λ ys. Holds256 more (text_of fed.done ++ text_of ys)) (for_none IsFor hashed.read (subst (λ (ys : List RowValue). AreFor false IsFor hashed.read ys) no_next hashed.each)) (hashed.holds (text_of fed.done) fed.holds)),
+  λ in_order. sym (append-nil fed.taken) ∙ ap (λ ys. fed.taken ++ ys) (sym none) ∙ fed.left in_order,
+)
 
 -- where there is no row, there is none after a key
 none_after : (last : Option Key) (rows : List RowValue) → rows ≡ [] → rows_after last 1 rows ≡ []
