@@ -70,11 +70,11 @@ read_beside (Err readfault.DiskFault) old new disk cache r = (r.0, refused_besid
 read_beside (Err readfault.Damaged) old new disk cache r = (r.0, refused_beside _ old new disk cache r.1)
 
 -- the list of segments is unchanged
-catalog_kept : {T D : Type 0} (read : Result T ReadFault) {old new : StoreValue D} → IsReadingOf (answer_of read) old new → new.catalog ≡ old.catalog
-catalog_kept (Ok x) r = r.catalog
-catalog_kept (Err readfault.OutOfMemory) r = r.1.catalog
-catalog_kept (Err readfault.DiskFault) r = r.1.catalog
-catalog_kept (Err readfault.Damaged) r = r.1.catalog
+catalog_kept : {T D : Type 0} (read : Result T ReadFault) (old new : StoreValue D) → IsReadingOf (answer_of read) old new → new.catalog ≡ old.catalog
+catalog_kept (Ok x) old new r = r.catalog
+catalog_kept (Err readfault.OutOfMemory) old new r = r.1.catalog
+catalog_kept (Err readfault.DiskFault) old new r = r.1.catalog
+catalog_kept (Err readfault.Damaged) old new r = r.1.catalog
 
 -- the rows were read, and what was read is answered
 pub answered_query : {T D : Type 0} (view : D → DiskView) (old new : StoreValue D) (lent disk : D) (cache : LruCache ℕ (List ℕ)) (read : Result T ReadFault) (result : Result T Refusal)
@@ -159,7 +159,7 @@ module _ {T D : Type 0} (view : D → DiskView) (rows_of : T → List RowValue) 
           found = λ up. answered_so (λ x. AreFor put_in_order (IsReadFor lent_shown) (rows_of x) (wanted (listed shown))) (λ x. rows_of x ≡ wanted old.history.rows) read result answers (λ x each. rows_exact lent_shown put_in_order (rows_of x) _ each (lends up) ∙ same_wanted) rows.each;
           stored = answered_so (λ x. AreFor put_in_order (IsReadFor lent_shown) (rows_of x) (wanted (listed shown))) (λ x. AreFor put_in_order (IsStoredFor view old) (rows_of x) (wanted old.history.rows)) read result answers
               (λ x each. subst (AreFor put_in_order (IsStoredFor view old) (rows_of x)) same_wanted (for_weaker put_in_order (IsReadFor lent_shown) (IsStoredFor view old) (stored_for lent_shown view old lent lent_cache entries lent_is lent_cache_is entries_are (λ segment at s may. may)) (rows_of x) _ each)) rows.each;
-          steady = steady_after left_entries lent_is lent_cache_is entries_are left_is same kept (catalog_kept read (subst (λ r. IsReadingOf r (record old { disk = disk; cache = cache }) new) (is_answer read result answers) answers_left)) read_so.reader.steady;
+          steady = steady_after left_entries lent_is lent_cache_is entries_are left_is same kept (catalog_kept read (record old { disk = disk; cache = cache }) new (subst (λ r. IsReadingOf r (record old { disk = disk; cache = cache }) new) (is_answer read result answers) answers_left)) read_so.reader.steady;
           causes = λ none. subst (λ r. IfErr r IsWithoutRead) (sym (is_answer read result answers)) (caused_answer read (rows.causes (same_wanted ∙ none)));
           query = answered_query view old new lent disk cache read result still lent_is stays read_so.reader.disk_faults (λ up. rows.undamaged (lends up)) answers answers_left same acknowledged;
           other_calls = ap (λ d. (view d).other_calls) same ∙ calls ∙ ap (λ d. (view d).other_calls) lent_is;
