@@ -67,6 +67,9 @@ sys.exit(real.wait())
 """
 # When a line of a hub's log was written.
 TIME = re.compile(r"[0-9]{4}-[0-9]{2}-[0-9]{2}T[0-9]{2}:[0-9]{2}:[0-9]{2}Z ")
+# What it tells at its start of a store that it has imported nothing to.
+NO_LINES = re.compile(TIME.pattern + r".*\.imports: it has no line for ([0-9]+) of \1 imports, "
+                      r"the first of which is 1\n")
 
 
 class Wrong(Exception):
@@ -346,8 +349,10 @@ class Hub:
         return self.end()
 
     def told(self) -> str:
-        """What it and its program have written to standard error."""
-        return self.faults.read_text("utf-8", "backslashreplace")
+        """What it and its program have written to standard error, without a first line that says
+        that no import has a line in the list of imports."""
+        text = self.faults.read_text("utf-8", "backslashreplace")
+        return NO_LINES.sub("", text, count=1) if NO_LINES.match(text) else text
 
     def logged(self, is_alone: bool = True) -> list[str]:
         """The lines of its log, without their times, which stand alone or beside those of the

@@ -24,6 +24,8 @@ STATUS = ["OK 2 10 2 -"]
 NIGHTS = 300
 MOST_SEGMENTS = 250
 ALMOST_FULL = MOST_SEGMENTS - 1
+# Lines that are on their way at the same time.
+ASKED = b"STATUS\n" * 200
 MERGE_ABOVE = 100
 # Another user and group than the hub's.
 NOBODY = 65534
@@ -339,12 +341,39 @@ def store_to_merge(place: Place) -> Path:
     return own
 
 
+class Asking:
+    """A client that always has lines on their way, also while one that imports waits until the
+    list of imports has the line of its import."""
+
+    def __init__(self, hub: Hub) -> None:
+        self.client, self.is_over = hub.client(), False
+        self.thread = threading.Thread(target=self.ask)
+
+    def ask(self) -> None:
+        self.client.send(ASKED)
+        while not self.is_over:
+            self.client.send(ASKED)
+            self.read()
+        self.read()
+
+    def read(self) -> None:
+        for _ in range(ASKED.count(b"\n")):
+            self.client.read()
+
+    def __enter__(self) -> None:
+        self.thread.start()
+
+    def __exit__(self, *_: object) -> None:
+        self.is_over = True
+        self.thread.join()
+
+
 def test_steps(place: Place) -> None:
     """Merges go in steps of 1,000 rows, and clients are answered between them, imports too. A merge
     that a client has begun is left to that."""
     recording = place.wrapped(RECORDER)
     own = store_to_merge(place)
-    with Hub(recording, own, "--merge-above", "2", releases=place.releases) as hub:
+    with Hub(recording, own, "--merge-above", "2", releases=place.releases) as hub, Asking(hub):
         client = hub.client()
         for line, count in ((b"IMPORT third\n", 100), (b"IMPORT between\n", 2_000)):
             client.send(line + b"STATUS\n" * count)
@@ -370,7 +399,7 @@ def test_steps(place: Place) -> None:
     assert len(at) == 29
     between = [lines[one:other] for one, other in zip(at[:8], at[1:8])]
     assert all(len(some) > 1 for some in between)
-    assert sum(b"1 IMPORT between" in some for some in between) == 1
+    assert sum(line.endswith(b" IMPORT between") for some in between for line in some) == 1
 
 
 UNIT, GATEWAY_UNIT = (TOP / "packaging" / name for name in ("sctd.service", "sctd-gateway.service"))

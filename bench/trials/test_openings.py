@@ -60,13 +60,15 @@ def test_first_start(place: Place, home: Path) -> None:
         assert own.ask("STATUS") == ["OK 0 0 0 -"]
         assert own.ask("IMPORT r1") == ["OK 1 6 0"]
         assert hub.told().split("\n")[0] == f"hub: {store}: a new store"
-    assert files(home) == ["a.store", "first-start", "releases"]
+    assert files(home) == ["a.store", "a.store.imports", "first-start", "releases"]
     assert ": layout 3, " in place.run("status", "--store", store).faults
     with Hub(place, store, "--make-store") as hub:
         assert hub.client().ask("STATUS") == ["OK 1 6 1 -"]
     store.unlink()
-    said = f"hub: {store}: there is no such file, and no store is made beside first-start\n"
-    assert ended(place, store, "--make-store") == (1, "", said)
+    said = f"hub: {store}: there is no such file, and no store is made beside "
+    assert ended(place, store, "--make-store") == (1, "", said + "a.store.imports\n")
+    (home / "a.store.imports").unlink()
+    assert ended(place, store, "--make-store") == (1, "", said + "first-start\n")
     assert files(home) == ["first-start", "releases"]
     assert ended(place, store)[:2] == (1, "ERR 2 DiskFault\n")
 

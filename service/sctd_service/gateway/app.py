@@ -20,7 +20,7 @@ from .fhir.versions import Edition
 from .frame import FOLDER, JSON, Answer
 from .hub import NEEDS_LATER_LAYOUT, OUT_OF_MEMORY, HubGone, HubRefused, Reply
 from .pages import PAGES
-from .pool import Pool
+from .pool import DAMAGED, UNLISTED, Pool
 from .posted import pairs_of
 from .problems import (
     NO_MEMBERS, Json, Problem, invalid, missing, not_found, not_now, not_supported, too_costly)
@@ -233,12 +233,14 @@ class App:
         """Whether the store can be asked, in time whatever hangs."""
         try:
             async with asyncio.timeout(limits.HEALTH_SECONDS), self.pool.opened(pin) as session:
-                view, is_damaged = View(session), await session.is_damaged()
+                view, troubles = View(session), await session.troubles()
         except (HubGone, HubRefused, TimeoutError, Problem) as error:
             problem = problem_of(error)
             return health_of(problem.status, {"problem": problem.text})
         state = {"pin": view.pin, "latest": view.latest}
-        if is_damaged:
+        if UNLISTED in troubles:
+            state["warning"] = "an import has no line in the list of imports so far"
+        if DAMAGED in troubles:
             return health_of(503, {**state, "problem": "the store is damaged"})
         return health_of(200, state)
 
