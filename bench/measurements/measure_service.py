@@ -34,9 +34,9 @@ from pathlib import Path
 
 sys.path.append(str(Path(__file__).resolve().parents[1] / "trials"))
 from measure_gateway import (  # noqa: E402
-    MS, VERSION, YEARS, Asked, Connection, HttpClient, SlowHubClient, Taken, concepts,
-    lookup, make_store, options_of, question)
-from measure_harness import child_of  # noqa: E402
+    MS, VERSION, YEARS, Asked, Connection, HttpClient, SlowHubClient, Taken, concepts, lookup,
+    make_store, options_of, question, request)
+from measure_harness import child_of, print_head, print_row  # noqa: E402
 from proxy_harness import (  # noqa: E402
     HOST, NOT_RUN, Client, Clients, Process, Proxy, free_ports, gateway_words, hub_words, missing,
     open_folder, ready, stop)
@@ -49,8 +49,6 @@ PAGE = 1_000
 BETWEEN_SECONDS = 0.05
 # How a question for any code on any day is answered.
 ANSWERED = (200, 404)
-HEAD = """| Asked | a second | median ms | p99 ms | processor us |
-|---|---|---|---|---|"""
 
 
 class Tcp(HttpClient):
@@ -83,15 +81,14 @@ class Tls(HttpClient):
 def expansion(day: str) -> bytes:
     """A request for a large page of all concepts, anywhere."""
     target = "/fhir/ValueSet/$expand?url=%s%s?fhir_vs&count=%d&offset=%d&includeDesignations=true"
-    offset = random.randrange(10) * PAGE
-    return b"GET %s HTTP/1.1\r\nHost: x\r\n\r\n" % (target % (VERSION, day, PAGE, offset)).encode()
+    return request(target % (VERSION, day, PAGE, random.randrange(10) * PAGE))
 
 
 class Service:
     """The hub, the gateways and nginx on a store."""
 
     def __init__(self, options: argparse.Namespace, place: Path) -> None:
-        self.options, self.place, self.questions = options, place, place / "questions"
+        self.options, self.log, self.questions = options, place / "log", place / "questions"
         folder = place / "store"
         folder.mkdir()
         make_store(options, str(place), str(folder / "terms"))
@@ -102,10 +99,6 @@ class Service:
         self.hub = ready(hub_words(options.program, folder / "terms", place, *sockets), self.log)
         self.gateways = [self.gateway(number) for number in range(GATEWAYS)]
         self.proxy.start()
-
-    @property
-    def log(self) -> Path:
-        return self.place / "log"
 
     def gateway(self, number: int) -> Process:
         return ready(gateway_words(self.questions, self.addresses[number]), self.log)
@@ -131,8 +124,8 @@ class Service:
         pids = self.processes()
         taken = Taken(list(pids.values()), client, path, make, clients, self.options.seconds)
         spent = ", ".join("%s %.0f" % pair for pair in zip(pids, taken.spent) if pair[1])
-        print("| %s | %.0f | %.1f | %.1f | %s |%s" % (
-            name, taken.rate, taken.median, taken.p99, spent, taken.refused), flush=True)
+        print_row(name, "%.0f" % taken.rate, "%.1f" % taken.median, "%.1f" % taken.p99, spent,
+                  behind=taken.refused)
 
     def beside(self) -> None:
         """A client of one gateway, alone and beside large expansions."""
@@ -186,7 +179,7 @@ class Restarting(Clients):
 def tried(options: argparse.Namespace, place: Path) -> None:
     service = Service(options, place)
     try:
-        print(HEAD)
+        print_head("Asked", "a second", "median ms", "p99 ms", "processor us")
         one = functools.partial(question, service.codes, service.days)
         service.measured("the hub, %d clients" % CLIENTS, SlowHubClient, str(service.questions),
                          one, CLIENTS)

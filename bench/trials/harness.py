@@ -128,10 +128,10 @@ class Place:
         """Puts one of the small releases beside those that are made."""
         self.releases.joinpath(name).symlink_to(RELEASES / name)
 
-    def contents(self) -> dict[str, bytes]:
-        """The bytes of each file, by its path."""
-        files = [path for path in self.folder.rglob("*") if path.is_file()]
-        return {str(path.relative_to(self.folder)): path.read_bytes() for path in files}
+    def contents(self) -> dict[str, bytes | None]:
+        """The bytes of each file by its path, and none of what is something else."""
+        return {str(path.relative_to(self.folder)): path.read_bytes() if path.is_file() else None
+                for path in self.folder.rglob("*")}
 
     # ---- the program
 
@@ -150,6 +150,19 @@ class Place:
         if ran.status != 0 or not ran.output.startswith("OK"):
             raise Wrong(f"{' '.join(map(str, words))}: {ran!r}")
         return ran.output.rstrip("\n")
+
+    def refuses(self, words: Sequence[str | Path], reply: str, why: str,
+                warned: Sequence[str] = (), before: Callable[[], object] | None = None) -> None:
+        """A call that has to be refused by this reply, with this in its only line for people, or
+        behind a line for each warning, which begins so. All files stay as they were."""
+        there = self.contents()
+        ran = self.run(*words, before=before)
+        same("what is answered", ran[:2], (1, reply + "\n"))
+        *warnings, last = ran.faults.splitlines() or [""]
+        is_told = last.startswith("sctd: ") and why in last + "\n" and len(warnings) == len(warned)
+        if not (is_told and all(map(str.startswith, warnings, warned))):
+            raise Wrong(f"{ran.faults!r}, not {why!r}")
+        same("whether a file was changed", self.contents() == there, True)
 
     def make_store(self, name: str = "store", layout: int = 2) -> Path:
         path = self.path(name)
