@@ -25,7 +25,8 @@ from measure_gateway import (
     HUB, MS, UnixHttp, begin_gateway, begin_hub, concepts, make_store, options_of)
 from measure_harness import MANY_ROWS, child_of, made_release, print_head, print_row
 from measure_harness import processor_seconds
-from proxy_harness import NOT_RUN, Process, missing, stop  # measure_gateway.py looks for it.
+from harness import tell
+from proxy_harness import Process, need, stop  # measure_gateway.py looks for it.
 
 SCT = "http://snomed.info/sct"
 DAYS = 7
@@ -137,12 +138,8 @@ def measured(begin: Callable[[], Asked], codes: Sequence[str], dates: Sequence[s
                 show("the same again", [asked.taken(text, day) for day in dates])
 
 
-def main() -> int:
-    options = options_of(__doc__, rows=MANY_ROWS, days=DAYS).parse_args()
-    options.package, options.hub = True, HUB
-    if (lacks := missing(())) is not None:
-        print("not run: there is no %s" % lacks)
-        return NOT_RUN
+def tried(options: argparse.Namespace) -> None:
+    need()
     with tempfile.TemporaryDirectory() as folder:
         store, hub_socket = str(Path(folder, "store")), str(Path(folder, "hub"))
         made_release(folder, options.rows, is_package=True)
@@ -156,7 +153,12 @@ def main() -> int:
             measured(partial(Asked, hub, hub_socket, options), codes, dates)
         finally:
             stop(hub)
-    return 0
+
+
+def main() -> int:
+    options = options_of(__doc__, rows=MANY_ROWS, days=DAYS).parse_args()
+    options.package, options.hub = True, HUB
+    return tell(lambda: tried(options))
 
 
 if __name__ == "__main__":

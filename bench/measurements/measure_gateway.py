@@ -11,6 +11,7 @@ each concept is expanded page by page on the last day, twice, by one client.
 """
 
 import argparse
+import contextlib
 import functools
 import http.client
 import json
@@ -31,8 +32,9 @@ import make_release as rf2
 from measure_harness import absolute, child_of, made_release, print_head, print_row, seconds_used
 
 sys.path.append(str(Path(__file__).resolve().parents[1] / "trials"))
+from harness import tell  # noqa: E402
 from proxy_harness import (  # noqa: E402
-    EDITION, NOT_RUN, SERVICE, Process, gateway_words, hub_words, missing, open_folder, ready, stop)
+    EDITION, SERVICE, Process, gateway_words, hub_words, need, open_folder, ready, stop)
 
 PROCESSES = 2
 FEW_CODES = 200
@@ -256,13 +258,17 @@ def begin_gateway(options: argparse.Namespace, hub: str, path: str) -> Process:
     return ready(gateway_words(Path(hub), path, *languages), Path(hub).with_name("log"))
 
 
-def tried(options: argparse.Namespace, folder: str) -> None:
-    store, hub_socket, place = (os.path.join(folder, name) for name in ("store", "hub", "http"))
-    make_store(options, folder, store)
-    codes, days = concepts(folder), ["%d0731" % year for year in YEARS]
-    hub = begin_hub(options, folder, store, hub_socket)
-    gateway = begin_gateway(options, hub_socket, place)
-    try:
+def tried(options: argparse.Namespace) -> None:
+    need()
+    with contextlib.ExitStack() as stack:
+        folder = str(stack.enter_context(open_folder()))
+        store, hub_socket, place = (os.path.join(folder, name) for name in ("store", "hub", "http"))
+        make_store(options, folder, store)
+        codes, days = concepts(folder), ["%d0731" % year for year in YEARS]
+        hub = begin_hub(options, folder, store, hub_socket)
+        stack.callback(stop, hub)
+        gateway = begin_gateway(options, hub_socket, place)
+        stack.callback(stop, gateway)
         below, seconds = [hub.pid, child_of(hub.pid)], options.seconds
         every = [gateway.pid, *below]
         any_code, one, four = (
@@ -285,9 +291,6 @@ def tried(options: argparse.Namespace, folder: str) -> None:
             # (The second time the codes are remembered.)
             for _ in range(2):
                 expanded(place, days[-1])
-    finally:
-        stop(gateway)
-        stop(hub)
 
 
 def options_of(doc: str | None, **numbers: int) -> argparse.ArgumentParser:
@@ -306,12 +309,7 @@ def main() -> int:
     for name in ("--raw-only", "--package"):
         words.add_argument(name, action="store_true")
     options = words.parse_args()
-    if (lacks := missing(())) is not None:
-        print("not run: there is no %s" % lacks)
-        return NOT_RUN
-    with open_folder() as folder:
-        tried(options, str(folder))
-    return 0
+    return tell(lambda: tried(options))
 
 
 if __name__ == "__main__":

@@ -21,6 +21,7 @@ processes, and at the end how loaded the machine was. It needs what try_proxy.py
 from __future__ import annotations
 
 import argparse
+import contextlib
 import functools
 import http.client
 import os
@@ -37,9 +38,10 @@ from measure_gateway import (  # noqa: E402
     MS, VERSION, YEARS, Asked, Connection, HttpClient, SlowHubClient, Taken, concepts, lookup,
     make_store, options_of, question, request)
 from measure_harness import child_of, print_head, print_row  # noqa: E402
+from harness import tell  # noqa: E402
 from proxy_harness import (  # noqa: E402
-    HOST, NOT_RUN, Client, Clients, Process, Proxy, free_ports, gateway_words, hub_words, missing,
-    open_folder, ready, stop)
+    HOST, NGINX, OPENSSL, Client, Clients, Process, Proxy, free_ports, gateway_words, hub_words,
+    need, open_folder, ready, stop)
 
 GATEWAYS, CLIENTS, EXPANDING, RESTARTED = 3, 64, 3, 4
 DEFAULT_ROWS, DEFAULT_SECONDS, DEFAULT_RESTARTS = 440_000, 5, 100
@@ -149,7 +151,7 @@ class Service:
         print("%d restarts of gateways: %d requests, %d lost, p99 %.0f ms" % (
             self.options.restarts, len(waits), asking.lost, waits[len(waits) * 99 // 100] * MS))
 
-    def end(self) -> None:
+    def close(self) -> None:
         self.proxy.end()
         for one in (*self.gateways, self.hub):
             stop(one)
@@ -176,9 +178,9 @@ class Restarting(Clients):
             self.waits.append(time.perf_counter() - began)
 
 
-def tried(options: argparse.Namespace, place: Path) -> None:
-    service = Service(options, place)
-    try:
+def tried(options: argparse.Namespace) -> None:
+    need(NGINX.name, OPENSSL)
+    with open_folder() as place, contextlib.closing(Service(options, place)) as service:
         print_head("Asked", "a second", "median ms", "p99 ms", "processor us")
         one = functools.partial(question, service.codes, service.days)
         service.measured("the hub, %d clients" % CLIENTS, SlowHubClient, str(service.questions),
@@ -188,19 +190,12 @@ def tried(options: argparse.Namespace, place: Path) -> None:
         service.beside()
         service.restarted()
         print("load %.1f on %d processors" % (os.getloadavg()[0], os.cpu_count() or 0))
-    finally:
-        service.end()
 
 
 def main() -> int:
     options = options_of(__doc__, rows=DEFAULT_ROWS, seconds=DEFAULT_SECONDS,
                          restarts=DEFAULT_RESTARTS).parse_args()
-    if (lacks := missing()) is not None:
-        print("not run: there is no %s" % lacks)
-        return NOT_RUN
-    with open_folder() as place:
-        tried(options, place)
-    return 0
+    return tell(lambda: tried(options))
 
 
 if __name__ == "__main__":
