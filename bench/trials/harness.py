@@ -250,6 +250,13 @@ class Place:
         self.done("copy", "--store", store, "--to", path, *words)
         return path
 
+    def digest_of(self, *releases: Path | str) -> str:
+        """The digest that examples/digest.py computes from releases; those behind `--all` were
+        imported into a store that keeps all their files."""
+        done = self.run_script("examples/digest.py", *releases)
+        same("how a digest is computed", (done.returncode, done.stderr), (0, b""))
+        return done.stdout.decode().rstrip("\n")
+
     def ask(self, store: Path, lines: Sequence[str]) -> list[list[str]]:
         """The replies to lines of one session."""
         with Server(self, store) as server:

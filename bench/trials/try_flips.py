@@ -148,7 +148,7 @@ def while_open(place: Place, store: Store, chance: random.Random, lines: Sequenc
 
 def tried(place: Place, rows: int, bits: int, chance: random.Random) -> None:
     """Prints what became of the bits, and what was answered while the store was open."""
-    make_release.main(["--package", str(place.releases), str(rows)])
+    make_release.make(place.releases, rows, is_package=True)
     path = place.make_store(layout=3)
     lines = list(some_questions(place.releases / "full", chance))
     shown = []
