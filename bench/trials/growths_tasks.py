@@ -53,8 +53,8 @@ TASKS = (
     Task("", status=2),
     Task("shelve", status=2),
     Task("init", status=2),
-    Task("init --store a --store ", status=2),
-    Task("import --store a --releases ", status=2),
+    Task("init --store a --store b", status=2),
+    Task("import --store a --releases b", status=2),
     Task("--help"),
     Task("import --help"),
 )
