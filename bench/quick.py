@@ -29,7 +29,7 @@ from unproved import FAST_BUILD, FAST_RUN, Builder, bytes_of, kit_folder, run_pr
 
 TOP = Path(__file__).resolve().parent.parent
 sys.path.append(str(TOP / "bench" / "trials"))
-from try_program import SCRIPTS, Outcome, run_script  # noqa: E402
+from try_program import SCRIPTS, Outcome, run_script, total  # noqa: E402
 
 PROGRAM = "sctd"
 
@@ -306,10 +306,9 @@ def main() -> int:
             return 2
         with ThreadPoolExecutor(at_once) as workers:
             outcomes = list(workers.map(progress.run, parts))
-    sums = (sum(numbers) for numbers in list(zip(*outcomes))[:3])
-    total = Outcome(*sums)
-    print(total)
-    return 0 if total.passed and not total.failed else 1
+    every = total(outcomes)
+    print(every)
+    return 0 if every.passed and not every.failed else 1
 
 
 if __name__ == "__main__":

@@ -11,16 +11,14 @@ the store, and their seconds begin there. The Delta's hold an opening.
 import os
 import random
 import sys
-from collections.abc import Iterable, Sequence
+from collections.abc import Iterable
 from pathlib import Path
-from typing import Optional
 
 import make_release as rf2
-from measure_harness import MANY_ROWS, ROWS, asked_for, made_release, timed
+from measure_harness import (
+    MANY_ROWS, ROWS, asked_for, made_release, print_head, print_row, timed)
 
 SEED = 7
-HEAD = """| Rows | Work | Processor seconds | Wall seconds | Peak bytes a row | Count |
-|---|---|---|---|---|---|"""
 
 
 def drawn(release: str, sort: str, count: int, chance: random.Random) -> list[list[str]]:
@@ -61,26 +59,21 @@ def measure(program: str, folder: str, rows: int) -> None:
     make(program, store, empty)
     ground = timed([program, "open", empty]).peak or 0
 
-    def run(title: str, words: Sequence[str], asked: Optional[str] = None) -> None:
-        cost = timed([program, words[0], store, *words[1:]], asked)
-        row = (rows, title, cost.used, cost.wall, ((cost.peak or 0) - ground) / rows, cost.text)
-        print("| %d | %s | %.2f | %.2f | %.0f | %s |" % row, flush=True)
-
-    run("import the Full release", ["import", place, "full"])
-    run("open", ["open"])
-    for title, word, name in (
-        ("10,000 lookups", "lookups", "concepts"),
-        ("1,000 pages of 100", "pages", "pages"),
-        ("1,000 searches of terms", "terms", "terms"),
-        ("1,000 questions for children", "children", "parents"),
-    ):
-        run(title, [word], os.path.join(place, name))
-    run("open, and import a Delta of 100 rows", ["import", place, "delta"])
+    for title, words, questions in (
+            ("import the Full release", ["import", place, "full"], ""), ("open", ["open"], ""),
+            ("10,000 lookups", ["lookups"], "concepts"), ("1,000 pages of 100", ["pages"], "pages"),
+            ("1,000 searches of terms", ["terms"], "terms"),
+            ("1,000 questions for children", ["children"], "parents"),
+            ("open, and import a Delta of 100 rows", ["import", place, "delta"], "")):
+        cost = timed([program, words[0], store, *words[1:]],
+                     os.path.join(place, questions) if questions else None)
+        print_row(rows, title, "%.2f" % cost.used, "%.2f" % cost.wall,
+                  "%.0f" % (((cost.peak or 0) - ground) / rows), cost.text)
 
 
 def main() -> int:
     asked = asked_for(__doc__, (ROWS, MANY_ROWS), needs_time=True)
-    print(HEAD)
+    print_head("Rows", "Work", "Processor seconds", "Wall seconds", "Peak bytes a row", "Count")
     for rows in asked.rows:
         measure(asked.program, asked.folder, rows)
     return 0

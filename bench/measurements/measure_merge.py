@@ -19,7 +19,7 @@ from collections.abc import Callable
 from pathlib import Path
 
 from measure import SEED, drawn, make, write_lines
-from measure_harness import Cost, asked_for, least, made_release, timed
+from measure_harness import Cost, asked_for, least, made_release, print_head, print_row, timed
 
 DEFAULT_ROWS, DEFAULT_TIMES = 100_000, 5
 STEP = 1000
@@ -51,17 +51,11 @@ def made(place: str, rows: int) -> str:
     return ids
 
 
-def show(title: str, cost: Cost, less: Cost) -> None:
-    row = (title, cost.used - less.used, cost.wall - less.wall, cost.text)
-    print("| %s | %.3f | %.3f | %s |" % row, flush=True)
-
-
 def show_lookups(times: int, groups: int, run: Callable[[str], Cost]) -> None:
     """Microseconds of a lookup and of what goes before a group, by the program's own clock."""
     print("%d groups of %d lookups" % (groups, GROUP))
-    print("| Lookups | Microseconds each: median, least, most"
-          " | Microseconds before a group: median | Found |")
-    print("|---|---|---|---|")
+    print_head("Lookups", "Microseconds each: median, least, most",
+               "Microseconds before a group: median", "Found")
     taken: dict[str, list[list[int]]] = {way: [] for way in WAYS}
     for _ in range(times):
         for way, works in taken.items():
@@ -69,8 +63,8 @@ def show_lookups(times: int, groups: int, run: Callable[[str], Cost]) -> None:
     for way, works in taken.items():
         asked = [work[0] / 1e3 / (groups * GROUP) for work in works]
         step = statistics.median(work[1] / 1e3 / groups for work in works)
-        row = (WAYS[way], statistics.median(asked), min(asked), max(asked), step, works[0][2])
-        print("| %s | %.2f, %.2f, %.2f | %.0f | %d |" % row, flush=True)
+        each = (statistics.median(asked), min(asked), max(asked))
+        print_row(WAYS[way], "%.2f, %.2f, %.2f" % each, "%.0f" % step, works[0][2])
 
 
 def measure(program: str, folder: str, rows: int, times: int) -> None:
@@ -82,8 +76,7 @@ def measure(program: str, folder: str, rows: int, times: int) -> None:
         timed([program, "import", before, os.path.join(place, str(seed)), "full"])
     size = os.path.getsize(before) - FIRST_ROW
     print("%d rows in %d bytes, %d a step" % (2 * rows, size, STEP))
-    print("| Work | Processor seconds | Wall seconds | Count |")
-    print("|---|---|---|---|")
+    print_head("Work", "Processor seconds", "Wall seconds", "Count")
 
     def run(what: str, *words: str) -> Cost:
         shutil.copyfile(before, store)
@@ -93,13 +86,13 @@ def measure(program: str, folder: str, rows: int, times: int) -> None:
         Path(copy).unlink(missing_ok=True)
         return timed([program, "write", before, copy, str(-(-size * STEP // (2 * rows)))])
 
-    nothing = least([timed([program, "nothing"]) for _ in range(times)])
-    opening = least([run("open") for _ in range(times)])
-    merging = least([run("merge") for _ in range(times)])
-    writing = least([write() for _ in range(times)])
-    show("open", opening, nothing)
-    show("merge, in all", merging, opening)
-    show("read the file, and write as many bytes in as many writes", writing, nothing)
+    nothing, opening, merging, writing = (least([work() for _ in range(times)]) for work in (
+        lambda: timed([program, "nothing"]), lambda: run("open"), lambda: run("merge"), write))
+    for title, cost, less in (
+            ("open", opening, nothing), ("merge, in all", merging, opening),
+            ("read the file, and write as many bytes in as many writes", writing, nothing)):
+        print_row(title, "%.3f" % (cost.used - less.used), "%.3f" % (cost.wall - less.wall),
+                  cost.text)
     show_lookups(times, 2 * rows // STEP, lambda way: run("groups", ids, way))
 
 

@@ -18,8 +18,8 @@ from collections.abc import Sequence
 from typing import Optional
 
 import make_release as rf2
-from measure import SEED, make
-from measure_harness import asked_for, timed
+from measure import SEED, make, write_lines
+from measure_harness import asked_for, print_head, print_row, timed
 
 COUNTS = (128, 250)
 ROWS = 40
@@ -63,8 +63,7 @@ def prepare(program: str, place: str) -> tuple[dict[tuple[int, int], str], str]:
     first = rows[: COUNTS[0] * ROWS]
     concepts = [line.split("\t")[0] for kind, line in first if kind == "C"]
     ids = os.path.join(place, "ids")
-    with open(ids, "w", encoding="ascii") as file:
-        file.write("\n".join(chance.choice(concepts) for _ in range(LOOKUPS)))
+    write_lines(ids, (chance.choice(concepts) for _ in range(LOOKUPS)))
     return stores, ids
 
 
@@ -85,12 +84,6 @@ class Least:
             self.processor[what] = min(self.processor.get(what, int(processor)), int(processor))
 
 
-def show(rows: int, segments: int, least: Least) -> None:
-    opening = (least.processor["open"] / 1000, least.wall["open"] / 1000)
-    lookup, page = least.processor["lookups"] / LOOKUPS, least.processor["pages"] / PAGES
-    print("| %d | %d | %.2f / %.2f | %.2f | %.1f |" % (rows, segments, *opening, lookup, page))
-
-
 def main() -> int:
     asked = asked_for(__doc__, (DEFAULT_TIMES,), needs_time=True)
     program, place, times = asked.program, asked.folder, str(asked.rows[0])
@@ -99,10 +92,12 @@ def main() -> int:
     for _ in range(TURNS):
         for (rows, segments), least in taken.items():
             least.run([program, "segments", stores[rows, segments], ids, times], segments)
-    print("| Rows | Segments | Open, processor / wall, ms | A lookup, us | A page of 100, us |")
-    print("|---|---|---|---|---|")
+    print_head("Rows", "Segments", "Open, processor / wall, ms", "A lookup, us",
+               "A page of 100, us")
     for (rows, segments), least in taken.items():
-        show(rows, segments, least)
+        used = least.processor
+        print_row(rows, segments, "%.2f / %.2f" % (used["open"] / 1000, least.wall["open"] / 1000),
+                  "%.2f" % (used["lookups"] / LOOKUPS), "%.1f" % (used["pages"] / PAGES))
     for count in COUNTS:
         one, many = taken[count * ROWS, 1], taken[count * ROWS, count]
         # The same rows are found, in however many segments they lie.

@@ -61,6 +61,11 @@ class Script:
         return self.process.returncode, told
 
 
+def ends_with(done: subprocess.CompletedProcess[bytes], why: str, status: int = 1) -> None:
+    """A run of a script printed nothing, and says why in one line."""
+    assert (done.returncode, done.stdout, done.stderr.decode()) == (status, b"", why + "\n")
+
+
 # ---- client.py
 
 
@@ -106,9 +111,7 @@ def test_client_whose_hub_ends(place: Place, two_imports: Path) -> None:
     ("x" * 200, "AF_UNIX path too long")))
 def test_client_without_hub(place: Place, store: Path, path: str, why: str) -> None:
     path = path.format(store.parent)
-    done = place.run_script(CLIENT, path, given=b"STATUS\n")
-    assert (done.returncode, done.stdout, done.stderr.decode()) == (
-        1, b"", f"client: {path}: {why}\n")
+    ends_with(place.run_script(CLIENT, path, given=b"STATUS\n"), f"client: {path}: {why}")
 
 
 # ---- What was known of records
@@ -354,7 +357,7 @@ def test_bad_runs(place: Place, chains: Hub, given: bytes, words: list[str], sta
                   why: str) -> None:
     """What ends a run is said in one line."""
     done = place.run_script(READER, "--socket", chains.questions, *words, given=given)
-    assert (done.returncode, done.stderr.decode()) == (status, f"read_records: {why}\n")
+    ends_with(done, f"read_records: {why}", status)
 
 
 @pytest.mark.parametrize("count", (1, 100_000))
@@ -376,9 +379,8 @@ def test_runs_whose_hub_ends(place: Place) -> None:
         left.input.write(b"%d,20120630\n" % concept_id(1) * 100)
         left.input.close()
         assert left.ended() == (1, "read_records: the hub has ended\n")
-    done = place.run_script(READER, "--socket", hub.questions, given=b"code,date\n")
-    assert (done.returncode, done.stderr.decode()) == (
-        1, f"read_records: {hub.questions}: No such file or directory\n")
+    ends_with(place.run_script(READER, "--socket", hub.questions, given=b"code,date\n"),
+              f"read_records: {hub.questions}: No such file or directory")
 
 
 def memory_of_run(place: Place, hub: Hub, count: int) -> int:

@@ -10,7 +10,6 @@ is ended: no request may be refused, and all answers have to be the same. Where 
 missing it tries the other one, says which is skipped, and ends with status 3.
 """
 
-import argparse
 import http.client
 import json
 import shutil
@@ -23,10 +22,10 @@ from contextlib import closing
 from pathlib import Path
 from typing import Optional
 
-from harness import Wrong, same
+from harness import NotRun, parser_of, same, tell
 from proxy_harness import (
-    HOST, KINDS, LANGUAGE, NOT_RUN, ROOT, SECONDS, TOOLS, USER, Authority, Client, Clients, Kind,
-    Process, Proxy, free_ports, gateway_words, hub_words, missing, open_folder, ready, stop)
+    HOST, KINDS, LANGUAGE, OPENSSL, ROOT, SECONDS, USER, Authority, Client, Clients, Kind, Process,
+    Proxy, free_ports, gateway_words, hub_words, need, open_folder, ready, stop)
 from sctd_service.protocol import HubClient, HubFailed
 
 HUBS, GATEWAYS = 2, 3
@@ -245,27 +244,22 @@ def tried(program: str, kind: Kind, restarts: int) -> None:
             print("%s: %s: %s" % (kind.name, trial.__name__, said), flush=True)
 
 
+def tried_by_all(program: str, restarts: int) -> None:
+    need(OPENSSL)
+    absent = [kind.name for kind in KINDS if shutil.which(kind.name) is None]
+    for kind in KINDS:
+        if kind.name not in absent:
+            tried(program, kind, restarts)
+    if absent:
+        raise NotRun("there is no " + " and no ".join(absent))
+
+
 def main() -> int:
-    parser = argparse.ArgumentParser(description="Tries gateways behind nginx and haproxy.")
-    parser.add_argument("program", type=Path, help="the built sctd")
+    parser = parser_of(__doc__)
     parser.add_argument("--long", dest="restarts", action="store_const", const=LONG_RESTARTS,
                         default=RESTARTS, help="more restarts")
     asked = parser.parse_args()
-    if (lacks := missing(TOOLS)) is not None:
-        print("not run: there is no %s" % lacks)
-        return NOT_RUN
-    absent = [kind.name for kind in KINDS if shutil.which(kind.name) is None]
-    try:
-        for kind in KINDS:
-            if kind.name not in absent:
-                tried(str(asked.program.resolve()), kind, asked.restarts)
-    except (Wrong, HubFailed, OSError, http.client.HTTPException) as why:
-        print("WRONG: %s" % why)
-        return 1
-    if absent:
-        print("skipped: there is no %s" % " and no ".join(absent))
-        return NOT_RUN
-    return 0
+    return tell(lambda: tried_by_all(str(asked.program), asked.restarts), HubFailed)
 
 
 if __name__ == "__main__":

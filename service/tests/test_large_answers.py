@@ -29,10 +29,7 @@ def large_service(own_service: Service) -> Service:
     # Other identifiers than those of the releases before.
     maker.items = {kind: 10_000_000 for kind in maker.items}
     for name, count, letter in (
-        ("large", MANY, "x"),
-        ("too large", TOO_MANY, "x"),
-        ("quotes", REMEMBERED, '"'),
-    ):
+            ("large", MANY, "x"), ("too large", TOO_MANY, "x"), ("quotes", REMEMBERED, '"')):
         code = maker.concept(name, DAY, "Concept with long terms")
         for number in range(count):
             maker.term(code, DAY, "%d %s" % (number, letter * TERM_LETTERS))
@@ -48,12 +45,7 @@ def large_service(own_service: Service) -> Service:
     service.codes = maker.codes
     service.stop_hub()
     service.run(
-        "import",
-        "--quiet",
-        "--store",
-        service.store,
-        str(service.releases / "large" / "d3"),
-    )
+        "import", "--quiet", "--store", service.store, str(service.releases / "large" / "d3"))
     service.start_hub()
     return service
 
