@@ -135,8 +135,8 @@ def test_contents(made: Made) -> None:
         "drwxr-xr-x", "-rwxr-xr-x", "-rw-r--r--", "lrwxrwxrwx"}
     commands = [words[5] for words in lines if words[0] == "-rwxr-xr-x"]
     assert sorted(os.path.basename(name) for name in commands) == [
-        "client.py", "digest.py", "export.py", "follow.py", "read_records.py", "sctd", "sctd",
-        "sctd-gateway", "sctd-hub", "take_copy.py"]
+        "check_edition.py", "client.py", "digest.py", "export.py", "follow.py", "read_records.py",
+        "sctd", "sctd", "sctd-gateway", "sctd-hub", "take_copy.py"]
     readme = made.path(debian.DOC + "/README").read_text("utf-8")
     assert readme.count("\n") <= MOST_LINES_OF_README
 

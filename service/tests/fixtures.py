@@ -17,6 +17,8 @@ from pathlib import Path
 from typing import Any
 from urllib.parse import urlencode
 
+from sctd_service.protocol import HubClient, last_line
+
 from . import demo_members, demo_releases
 from .recorder import Recorder
 
@@ -152,6 +154,20 @@ class Service:
         sockets = ("--socket", self.socket, "--questions", self.questions)
         words = (self.hub_script, self.program, self.store, str(self.releases), *sockets)
         self.hub = begun_hub(*words)
+
+    def asked(self, line: str) -> str:
+        """The last line of the reply to a line on the hub's own socket, or without a hub that of
+        the program."""
+        if self.hub is None:
+            words = [self.program, "serve", "--store", self.store, "--releases", "."]
+            done = subprocess.run(
+                words, input="0 %s\n" % line, text=True, stdout=subprocess.PIPE, check=True
+            )
+            last: str = done.stdout.splitlines()[-1]
+            return last
+        with HubClient(self.socket) as hub:
+            hub.send([line.encode()])
+            return last_line(hub.reply()).decode()
 
     def stop_hub(self) -> None:
         if self.hub and self.hub.stdout:

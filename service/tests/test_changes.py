@@ -30,7 +30,7 @@ class Crowd(View):
     def __init__(self, count: int) -> None:
         self.codes = [str(sctid(9_000 + number, "00")) for number in range(count)]
         self.days, self.latest = ["20200101", "20210101"], "20210101"
-        self.pin, self.receipt = 1, "-"
+        self.pin, self.receipt, self.known = 1, "-", None
 
     async def versions(self, code: str) -> list[Concept]:
         return [Concept(code, "20200101", "1", "1", "1")]
