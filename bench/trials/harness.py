@@ -82,8 +82,7 @@ class Wrong(Exception):
 
 
 # What a trial ends with that can't go on.
-FAULTS: tuple[type[Exception], ...] = (
-    Wrong, OSError, subprocess.SubprocessError, http.client.HTTPException)
+FAULTS = (Wrong, OSError, subprocess.SubprocessError, http.client.HTTPException)
 
 
 class NotRun(Exception):
@@ -114,14 +113,14 @@ def go_on_with(modules: Iterable[str] = MODULES) -> None:
         os.execv(python, [python, *sys.argv])
 
 
-def tell(trial: Callable[[], object], *faults: type[Exception]) -> int:
+def tell(trial: Callable[[], object]) -> int:
     """Makes a trial, and prints what is wrong or missing: the status of its script."""
     try:
         trial()
     except NotRun as lacks:
         print(f"not run: {lacks}")
         return NOT_RUN
-    except FAULTS + faults as why:
+    except FAULTS as why:
         print(f"WRONG: {why}")
         return 1
     return 0
@@ -201,11 +200,12 @@ class Place:
         return ran.output.rstrip("\n")
 
     def refuses(self, words: Sequence[str | Path], reply: str, why: str,
-                warned: Sequence[str] = (), before: Callable[[], object] | None = None) -> None:
+                warned: Sequence[str] = (), around: Mapping[str, str] | None = None,
+                before: Callable[[], object] | None = None) -> None:
         """A call that has to be refused by this reply, with this in its only line for people, or
         behind a line for each warning, which begins so. All files stay as they were."""
         there = self.contents()
-        ran = self.run(*words, before=before)
+        ran = self.run(*words, around=around, before=before)
         same("what is answered", ran[:2], (1, reply + "\n"))
         *warnings, last = ran.faults.splitlines() or [""]
         is_told = last.startswith("sctd: ") and why in last + "\n" and len(warnings) == len(warned)
@@ -482,6 +482,8 @@ class Client:
     def leave(self) -> None:
         self.lines.close()
         self.connection.close()
+
+    close = leave
 
 
 def mode(path: Path) -> int:

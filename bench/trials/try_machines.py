@@ -35,11 +35,11 @@ from typing import Any, NamedTuple, Optional
 from urllib.parse import urlencode
 
 from machines_releases import CODES, TOP, days_of, rows_of, wording_of, write
+import harness
 from harness import Wrong, children, parser_of, same, tell, until
 from proxy_harness import (
     HAPROXY, LOOK_SECONDS, NGINX, OPENSSL, ROOT, SECONDS, Client, Clients, Process, Proxy,
     gateway_words, hub_words, need, open_folder, ready, run, stop)
-from sctd_service.protocol import HubClient, HubFailed
 from tests.compare_releases import Comparison, Differs
 from tests.fixtures import SCT, Json, version
 from tests.release_files import Rows, Snapshot
@@ -195,12 +195,8 @@ class Machine:
 
     def asked(self, line: str, path: Optional[Path] = None) -> str:
         """The last line of the hub's reply."""
-        client = HubClient(str(path or self.questions))
-        try:
-            client.send([line.encode()])
-            return client.reply().decode().splitlines()[-1]
-        finally:
-            client.close()
+        with closing(harness.Client(path or self.questions)) as client:
+            return client.ask(line)[-1]
 
     def imports(self) -> int:
         return int(self.asked("STATUS").split()[1])
@@ -315,8 +311,8 @@ class Site:
 
     def kill_in_an_import(self) -> None:
         """Kills the machine that imports while it does, and repeats what wasn't done."""
-        client = HubClient(str(self.writer.own))
-        client.send([b"IMPORT r%d" % (self.imports + 1)])
+        client = harness.Client(self.writer.own)
+        client.send(b"IMPORT r%d\n" % (self.imports + 1))
         time.sleep(random.random() * LOOK_SECONDS)
         self.writer.kill()
         client.close()
@@ -549,7 +545,7 @@ def main() -> int:
     parser.add_argument("--processes", action="store_true", help="no networks")
     parser.add_argument(INSIDE, action="store_true", help=argparse.SUPPRESS)
     options = parser.parse_args()
-    return tell(lambda: begin(options), HubFailed)
+    return tell(lambda: begin(options))
 
 
 if __name__ == "__main__":
