@@ -12,9 +12,11 @@ nothing was refused that had to be, nothing was tried, and the status is 1.
 LINES random lines (40 where none are given), as those of soak.py, are served again and again on a
 copy of a store, of layout 3 where the rest of SEED divided by 3 is 2 (SEED is 2 where none is
 given) and else of layout 2; behind them it asks for all that a refusal might have made the program
-forget. With `script` the lines are those of the demonstration, with a second step of its merge and
-further questions: all of them on a store without rows, and then its questions on the store that
-they leave. In each tenth run the line that is refused comes a second time: then it is answered. In
+forget. With `script` the lines are those of the demonstration, with a merge that is given up and
+a second step of its merge, further questions, and an import and a merge behind them: all of them on
+a store without rows, and then its questions on the store that they leave. Each line that takes
+memory has to be refused in some run, and a run that is refused at its start leaves the store as it
+was. In each tenth run the line that is refused comes a second time: then it is answered. In
 further runs from each seventh call on 40 in a row are refused, and from each tenth on all. With
 `tasks` each task of the command line is done so, on stores that were made before, and so are words
 that are none, and helps; `demo`, whose disk is in memory, and fails where that runs out, gives each
