@@ -3,11 +3,8 @@
 
 mod choices;
 mod disks;
-mod releases;
 mod saying;
 mod sent;
-mod server;
-mod spoiled;
 mod streams;
 mod turns;
 mod ways;

@@ -1,17 +1,15 @@
 //! Parts whose lines are calls, each after the word `call`, or bytes of a disk, each after `at` and
 //! the offset of the first, as in `at 4096 53435448`. A call is a question of this program. In a
-//! *look*, whose answers are printed one after the other, a call may also be
+//! *look*, whose answers are printed one after the other, in one line, a call may also be
 //! - `known PIN PART`, which prints the number of the remembered answers to the part that are equal
 //!   to the store's, where `PIN` stands for the pin;
 //! - `in-1 CALL`, a call that is made, and whose answer is printed, only by a store of layout 1.
 
+use crate::calls::is_refusal;
 use crate::case_state::CaseState;
 use case_files::{Answer, NoAnswer, two_words};
 use case_values::first_word;
 use std::alloc::Global;
-
-/// The answer to a call of a store that has to be opened again.
-const SHUT: &str = "refused 3 ReopenNeeded";
 
 /// A line of a part.
 #[derive(Drop)]
@@ -30,7 +28,7 @@ pub struct Scripts {
 
 /// Whether a call is refused because the store has to be opened again.
 fn is_shut(state: &mut CaseState, call: &str) -> Result<bool, NoAnswer> {
-    Ok(state.ask_line(call)?.as_str() == SHUT)
+    Ok(is_refusal(state.ask_line(call)?.as_str(), "3 ReopenNeeded"))
 }
 
 impl Scripts {
@@ -130,7 +128,7 @@ impl Scripts {
                 if !text.is_empty() {
                     text.push_str(", ")?;
                 }
-                text.push_str(answer.as_str())?;
+                text.push_str(answer.replace(self.alloc, "\n", ", ")?.as_str())?;
             }
         }
         Ok(text)

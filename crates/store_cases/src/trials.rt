@@ -8,8 +8,7 @@
 //!   closed and opened again, is equal to the kept one, byte for byte. `create` makes a store on
 //!   the kept disk, which has to stay unchanged if that is refused.
 //! - `remember PIN PART` and `known PIN PART` ask the store as `scripts.rt` says.
-//! - `crashes CHOICE SCRIPT LOOK` prints what a look shows of the store that each crash leaves,
-//! where
+//! - `crashes CHOICE SCRIPT LOOK` prints what a look shows of the store that each crash leaves, where
 //!   the choice says what becomes of unsynced bytes: `kept`, `lost`, or replaced by this byte. The
 //!   crashes are numbered by the changing calls before them.
 //! - `fails FAILURE SCRIPT SHUT LOOK` lets one call of the disk fail, each in turn: one that
@@ -21,7 +20,7 @@
 //! - `cut`, `with` and `byte` are about the kept disk (`kept.rt`); for copies of it see
 //!   `copies.rt`.
 
-use crate::calls::{spell_refusal, store_of};
+use crate::calls::{is_refusal, is_refused, spell_refusal, store_of};
 use crate::case_state::CaseState;
 use crate::copies::{copy_kept, try_copies};
 use crate::failures::Failure;
@@ -29,20 +28,11 @@ use crate::kept::{cut, put_at, try_byte, with};
 use crate::refusals::all_refusals;
 use crate::scripts::Scripts;
 use case_files::{Answer, Answers, NoAnswer};
-use case_values::{Groups, first_word, number};
-use disk_model::{Choice, MemDisk};
+use case_values::{Groups, first_word};
+use disk_model::MemDisk;
 use history_store::Refusal;
 use std::alloc::Global;
-use test_support::{CHOICES, Example, image_after};
-
-/// What becomes of unsynced bytes: all are kept, all are lost, or each is replaced by this byte.
-fn choice_of(word: &str) -> Result<Choice, NoAnswer> {
-    match word {
-        "kept" => Ok(Choice::Kept),
-        "lost" => Ok(Choice::Lost),
-        _ => Ok(Choice::Filled(number(word)?)),
-    }
-}
+use test_support::{CHOICES, Example, choice_of, image_after};
 
 /// The names of the part that has to be refused after a failure, and of the one that looks at what
 /// is left.
@@ -193,7 +183,7 @@ impl Trials {
     fn disk_behind(&mut self, script: &[String]) -> Result<MemDisk, NoAnswer> {
         self.begin_trial()?;
         for call in script {
-            if self.state.ask_line(call)?.starts_with("refused") {
+            if is_refused(&self.state.ask_line(call)?) {
                 return Err(NoAnswer::NoQuestion);
             }
         }
@@ -279,13 +269,13 @@ impl Trials {
         for (number, call) in script.iter().enumerate() {
             let before = self.state.counts();
             let answer = self.state.ask_line(call)?;
-            if answer.as_str() == "refused 2 DiskFault" {
+            if is_refusal(&answer, "2 DiskFault") {
                 if self.state.counts() != before {
                     return Ok(Outcome::Wrong("the counts changed"));
                 }
                 return self.fall(wanted, looks.get(number..number.saturating_add(2)));
             }
-            if answer.starts_with("refused") {
+            if is_refused(&answer) {
                 return Ok(Outcome::Wrong("another refusal"));
             }
         }

@@ -1,9 +1,8 @@
 //! What a crash leaves of a disk.
 
 use case_files::{Fault, number, two_words};
-use disk_model::{Choice, MemDisk};
-use std::alloc::AllocError;
-use test_support::image_before_end;
+use disk_model::Choice;
+use test_support::choice_of;
 
 /// Which image of a moment is chosen, and of which moments: those before the last `first` to `last`
 /// of the disk's changing calls.
@@ -32,26 +31,5 @@ impl<'a> Crashes<'a> {
             last,
             rest,
         })
-    }
-}
-
-/// What a crash leaves before the last `left` changing calls; for 0, at the present moment.
-pub(crate) fn image_at(disk: &MemDisk, choice: Choice, left: u64) -> Result<Vec<u8>, AllocError> {
-    if left == 0 {
-        disk.image_now(choice)
-    } else {
-        image_before_end(disk, left, choice)
-    }
-}
-
-/// What becomes of unsynced bytes: all are kept, all are lost, or each is replaced by this byte.
-pub(crate) fn choice_of(word: &str) -> Result<Choice, Fault> {
-    match word {
-        "kept" => Ok(Choice::Kept),
-        "lost" => Ok(Choice::Lost),
-        _ => match word.parse::<u8>() {
-            Ok(byte) => Ok(Choice::Filled(byte)),
-            Err(_) => Err(Fault::Line("kept, lost or a byte is wanted")),
-        },
     }
 }

@@ -1,18 +1,23 @@
 //! The store of a case, and its disk while the store is closed.
 
-use crate::lines::choices::{choice_of, image_at};
-use crate::lines::server::Server;
-use crate::lines::spoiled::Spoiled;
 use case_files::{Fault, Shown, number, two_words};
 use disk_model::MemDisk;
 use std::alloc::Global;
+use test_support::{Example, choice_of, image_before_end};
+
+/// The disk of a closed store, and how many of its first reads will be sound.
+#[derive(Drop)]
+pub(crate) struct Closed {
+    pub(crate) disk: MemDisk,
+    sound_reads: u64,
+}
 
 /// The store of a case: either open, or closed with its disk available.
 #[derive(Drop)]
 pub(crate) struct CaseStore {
     alloc: Global,
-    pub(crate) server: Option<Server>,
-    pub(crate) disk: Option<Spoiled>,
+    pub(crate) server: Option<Example>,
+    pub(crate) disk: Option<Closed>,
 }
 
 impl CaseStore {
@@ -28,7 +33,7 @@ impl CaseStore {
     /// A new store of layout 2 on an empty disk in memory.
     pub(crate) fn begin(&mut self) -> Result<(), Fault> {
         self.disk = None;
-        match Server::new(self.alloc) {
+        match Example::new(self.alloc) {
             Ok(server) => self.server = Some(server),
             Err(_) => return Err(Fault::Memory),
         }
@@ -51,7 +56,10 @@ impl CaseStore {
     fn close(&mut self) -> Result<(), Fault> {
         match self.server.take() {
             Some(server) => {
-                self.disk = Some(server.close());
+                self.disk = Some(Closed {
+                    disk: server.close(),
+                    sound_reads: u64::MAX,
+                });
                 Ok(())
             }
             None => Err(Fault::Line("the store is closed")),
@@ -60,10 +68,10 @@ impl CaseStore {
 
     /// Opens the store that the disk represents.
     fn open(&mut self) -> Result<(), Fault> {
-        let Some(disk) = self.disk.take() else {
+        let Some(closed) = self.disk.take() else {
             return Err(Fault::Line("the store is open"));
         };
-        match Server::opened(self.alloc, disk) {
+        match Example::open_spoiled(self.alloc, closed.disk, closed.sound_reads) {
             Ok(server) => self.server = Some(server),
             Err(_) => return Err(Fault::Line("the store is refused")),
         }
@@ -74,12 +82,12 @@ impl CaseStore {
 /// Carries out a line of a case whose store is closed.
 fn take_of_disk(
     alloc: Global,
-    spoiled: &mut Spoiled,
+    closed: &mut Closed,
     word: &str,
     rest: &str,
     shown: &mut Shown,
 ) -> Result<(), Fault> {
-    let disk = &mut spoiled.disk;
+    let disk = &mut closed.disk;
     match word {
         "changes" => compare_number(alloc, shown, rest, disk.changes()),
         "break" => {
@@ -87,7 +95,7 @@ fn take_of_disk(
             Ok(())
         }
         "spoil" => {
-            spoiled.sound_reads = number(rest)?;
+            closed.sound_reads = number(rest)?;
             Ok(())
         }
         "crash" => crash(alloc, disk, rest),
@@ -109,7 +117,7 @@ fn compare_number(
 /// Replaces the disk by what a crash leaves of it.
 fn crash(alloc: Global, disk: &mut MemDisk, rest: &str) -> Result<(), Fault> {
     let (choice, left) = two_words(rest);
-    let image = image_at(disk, choice_of(choice)?, number(left)?)?;
+    let image = image_before_end(disk, number(left)?, choice_of(choice)?)?;
     *disk = MemDisk::from_bytes(alloc, image);
     Ok(())
 }

@@ -1,17 +1,18 @@
 //! What a server returns and writes, compared with what it should.
 
-use crate::lines::server::Server;
 use crate::lines::streams::{Narrow, Pieces};
 use crate::lines::turns::Turns;
 use crate::lines::ways::Way;
 use case_files::{Fault, Shown};
 use std::alloc::{AllocError, Global};
 use std::cell::Cell;
+use test_support::{Example, Releases};
 
 /// Lets a server answer lines, and compares its replies with the expected ones.
 pub(crate) fn says(
     alloc: Global,
-    server: &mut Server,
+    server: &mut Example,
+    releases: &mut Releases,
     turns: &Turns,
     shown: &mut Shown,
 ) -> Result<(), Fault> {
@@ -19,20 +20,21 @@ pub(crate) fn says(
         return Err(Fault::Line("the last line has no whole reply"));
     }
     let gives = format!(in alloc; "Ok({})", turns.count)?;
-    says_in(alloc, server, turns, Way::ample(&gives), shown)
+    says_in(alloc, server, releases, turns, Way::ample(&gives), shown)
 }
 
 /// The same, read and written in a given way.
 pub(crate) fn says_in(
     alloc: Global,
-    server: &mut Server,
+    server: &mut Example,
+    releases: &mut Releases,
     turns: &Turns,
     way: Way<'_>,
     shown: &mut Shown,
 ) -> Result<(), Fault> {
     let room = way.room.min(turns.replies.len());
     let wanted = as_text(alloc, way.gives, way.written, &turns.replies[..room])?;
-    let got = said(alloc, server, turns, way)?;
+    let got = said(alloc, server, releases, turns, way)?;
     shown.compare(wanted.as_slice(), got.as_slice())
 }
 
@@ -57,7 +59,8 @@ fn as_text(
 /// What the server returns, how it reads, and what it writes.
 fn said(
     alloc: Global,
-    server: &mut Server,
+    server: &mut Example,
+    releases: &mut Releases,
     turns: &Turns,
     way: Way<'_>,
 ) -> Result<Vec<u8>, AllocError> {
@@ -70,7 +73,7 @@ fn said(
         room: way.room,
         written: &written,
     };
-    let answer = server.serve_within(way.reads, &mut input, &mut output);
+    let answer = server.serve(releases, way.reads, &mut input, &mut output);
     let answer = format!(in alloc; "{answer:?}")?;
     let noted = way.written.and(Some(input.noted()));
     as_text(alloc, &answer, noted, output.taken.as_slice())

@@ -1,16 +1,15 @@
 //! Carries out the lines of a case.
 
-use crate::lines::choices::{Crashes, image_at};
+use crate::lines::choices::Crashes;
 use crate::lines::disks::CaseStore;
 use crate::lines::saying::{says, says_in};
-use crate::lines::server::Server;
-use crate::lines::spoiled::Spoiled;
 use crate::lines::turns::Turns;
 use crate::lines::ways::Way;
 use case_files::{Block, Fault, Shown, Subject};
 use disk_model::MemDisk;
 use std::alloc::Global;
 use std::mem;
+use test_support::{Example, Releases, image_before_end};
 
 /// Lines that cases name.
 #[derive(Drop)]
@@ -27,10 +26,12 @@ pub(crate) struct Lines {
     store: CaseStore,
     /// The lines that haven't been sent yet.
     turns: Turns,
-    /// The parts of the file.
+    /// The parts of the file: lines, and releases.
     parts: Vec<Part>,
-    /// The name of the part that isn't complete yet.
+    releases: Releases,
+    /// The name of the part that isn't complete yet, and whether it is a release.
     part: Option<String>,
+    is_release: bool,
     /// Whether the case has sent anything, and whether it did so by `way`.
     has_sent: bool,
     has_ways: bool,
@@ -45,7 +46,9 @@ impl Lines {
             store: CaseStore::none(alloc),
             turns: Turns::new(alloc),
             parts: Vec::new(alloc),
+            releases: Releases::new(alloc),
             part: None,
+            is_release: false,
             has_sent: false,
             has_ways: false,
             shown: Shown::new(alloc),
@@ -60,7 +63,13 @@ impl Lines {
         let turns = mem::replace(&mut self.turns, Turns::new(self.alloc));
         self.has_sent = true;
         match &mut self.store.server {
-            Some(server) => says(self.alloc, server, &turns, &mut self.shown),
+            Some(server) => says(
+                self.alloc,
+                server,
+                &mut self.releases,
+                &turns,
+                &mut self.shown,
+            ),
             None => Err(Fault::Line("the store is closed")),
         }
     }
@@ -69,14 +78,33 @@ impl Lines {
     fn send_in(&mut self, rest: &str) -> Result<(), Fault> {
         let way = Way::of(rest)?;
         (self.has_sent, self.has_ways) = (true, true);
-        match Server::new(self.alloc) {
-            Ok(mut server) => says_in(self.alloc, &mut server, &self.turns, way, &mut self.shown),
+        match Example::new(self.alloc) {
+            Ok(mut server) => says_in(
+                self.alloc,
+                &mut server,
+                &mut self.releases,
+                &self.turns,
+                way,
+                &mut self.shown,
+            ),
             Err(_) => Err(Fault::Memory),
         }
     }
 
-    /// Keeps the lines as the part of this name.
+    /// Adds a line of a release to the part that isn't complete yet.
+    fn give(&mut self, word: &str, rest: &str) -> Result<(), Fault> {
+        self.is_release = true;
+        match &self.part {
+            Some(part) => Ok(self.releases.give(part, word, rest)?),
+            None => Err(Fault::Line("no word of a case")),
+        }
+    }
+
+    /// Keeps the lines as the part of this name, unless it is a release.
     fn keep(&mut self, name: String) -> Result<(), Fault> {
+        if self.is_release && self.turns.is_empty() {
+            return Ok(());
+        }
         if self.turns.is_due || self.turns.is_empty() {
             return Err(Fault::Line("the part has no lines, or no whole reply to its last one"));
         }
@@ -116,7 +144,13 @@ impl Lines {
         let place = self.place_of(name)?;
         self.has_sent = true;
         match (&mut self.store.server, self.parts.get(place)) {
-            (Some(server), Some(part)) => says(self.alloc, server, &part.turns, &mut self.shown),
+            (Some(server), Some(part)) => says(
+                self.alloc,
+                server,
+                &mut self.releases,
+                &part.turns,
+                &mut self.shown,
+            ),
             _ => Err(Fault::Line("the store is closed")),
         }
     }
@@ -137,10 +171,15 @@ impl Lines {
         let (Some(disk), Some(part)) = (&self.store.disk, self.parts.get(place)) else {
             return Err(Fault::Line("the store is open"));
         };
-        let image = image_at(&disk.disk, crashes.choice, left)?;
-        let disk = Spoiled::sound(MemDisk::from_bytes(self.alloc, image));
-        match Server::opened(self.alloc, disk) {
-            Ok(mut server) => says(self.alloc, &mut server, &part.turns, &mut self.shown),
+        let image = image_before_end(&disk.disk, left, crashes.choice)?;
+        match Example::opened(self.alloc, MemDisk::from_bytes(self.alloc, image)) {
+            Ok(mut server) => says(
+                self.alloc,
+                &mut server,
+                &mut self.releases,
+                &part.turns,
+                &mut self.shown,
+            ),
             Err(_) => Err(Fault::Line("the store is refused")),
         }
     }
@@ -159,7 +198,7 @@ impl Lines {
 impl Subject for Lines {
     fn begin(&mut self, block: Block, name: &str) -> Result<(), Fault> {
         self.turns = Turns::new(self.alloc);
-        (self.has_sent, self.has_ways) = (false, false);
+        (self.has_sent, self.has_ways, self.is_release) = (false, false, false);
         self.part = match block {
             Block::Case => None,
             Block::Part => Some(String::from_str(self.alloc, name)?),
@@ -172,7 +211,7 @@ impl Subject for Lines {
             return done;
         }
         match word {
-            _ if self.part.is_some() => Err(Fault::Line("no word of a part")),
+            _ if self.part.is_some() => self.give(word, rest),
             "send" => self.add_part(rest),
             "way" => self.send_in(rest),
             _ if self.has_ways => Err(Fault::Line("no word of a case that has ways")),
@@ -197,6 +236,7 @@ impl Subject for Lines {
     fn end_file(&mut self) -> Result<(), Fault> {
         let all_asked = self.parts.iter().all(|part| part.is_asked);
         self.parts.clear();
+        self.releases = Releases::new(self.alloc);
         if all_asked {
             Ok(())
         } else {

@@ -1,8 +1,8 @@
 //! Lines that are sent, and the expected replies.
 
-use case_files::{Fault, number, two_words};
+use case_files::{Fault, two_words};
+use case_values::row_text;
 use std::alloc::Global;
-use test_support::line;
 
 /// Lines that are sent one after the other, and the replies to them.
 #[derive(Drop)]
@@ -41,7 +41,6 @@ impl Turns {
             "<" => Some(self.reply(rest)),
             "raw" => Some(self.send_bytes(rest)),
             "later" => Some(self.put_later(rest)),
-            "fill" => Some(self.fill(rest)),
             _ => None,
         }
     }
@@ -67,7 +66,7 @@ impl Turns {
         if !self.is_due {
             return Err(Fault::Line("the reply stands behind no line"));
         }
-        let row = line(self.alloc, text)?;
+        let row = row_text(self.alloc, text)?;
         self.replies.extend_from_slice(row.as_bytes())?;
         self.replies.extend_from_slice(b"\n")?;
         let (word, _) = two_words(text);
@@ -94,16 +93,6 @@ impl Turns {
         self.later.extend_from_slice(text.as_bytes())?;
         self.later.extend_from_slice(b"\n")?;
         Ok(())
-    }
-
-    /// Adds a letter to send, until everything to send has this many bytes.
-    fn fill(&mut self, rest: &str) -> Result<(), Fault> {
-        let (length, letter) = two_words(rest);
-        let length = number(length)? as usize;
-        match letter.as_bytes() {
-            [byte] if self.sent.len() < length => Ok(self.sent.resize(length, *byte)?),
-            _ => Err(Fault::Line("it wants a greater length, and one letter")),
-        }
     }
 
     /// Adds the lines and the replies of others.
