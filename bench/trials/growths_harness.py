@@ -67,10 +67,11 @@ class Program:
         self.program, self.library = program, compiled("growths", folder)
 
     def run(self, words: Sequence[str], folder: Path, given: bytes = b"",
-            refusals: Optional[Refusals] = None) -> tuple[Ran, bool]:
-        """Runs it in a folder, and tells if any request was refused."""
+            refusals: Optional[Refusals] = None,
+            around: Optional[dict[str, str]] = None) -> tuple[Ran, bool]:
+        """Runs it in a folder, and tells if any request was refused for its number."""
         mark = Path(str(folder) + ".refused")
-        around = dict(os.environ)
+        around = dict(os.environ if around is None else around)
         if refusals is not None:
             around.update(LD_PRELOAD=str(self.library), REFUSED=str(mark),
                           REFUSE=str(refusals.first), REFUSE_COUNT=str(refusals.how_many))

@@ -3,6 +3,7 @@
 refuse_growths.py PROGRAM [LINES [SEED]]
 refuse_growths.py PROGRAM script
 refuse_growths.py PROGRAM tasks
+refuse_growths.py PROGRAM room
 
 In the Nth run the Nth call of malloc, calloc or realloc gets no memory, for N = 1, 2, .. until a
 run makes fewer calls. RELIABILITY says what has to hold of each run, under "Memory runs out".
@@ -15,7 +16,9 @@ questions on the store that they leave. Each line that takes memory has to be re
 and a run that is refused at its start leaves the store as it was. In each tenth run the line that
 is refused comes a second time: then it is answered. In further runs from each seventh call on 40 in
 a row are refused, and from each tenth on all. With `tasks` each task of the command line is done
-so, and so are words that are none, and helps. It needs Linux, glibc and a C compiler. Where there
+so, and so are words that are none, and helps. With `room` each call of the store is made by a line
+that has room for no byte of memory, then for 16 bytes, and so on until it isn't refused; and so a
+store is made, and opened. Each is wanted to be refused so many times. It needs Linux, glibc and a C compiler. Where there
 is /dev/shm its files lie there, since syncs take most of the time otherwise.
 """
 
@@ -25,6 +28,7 @@ import tempfile
 from pathlib import Path
 
 import growths_lines as lines
+import growths_room as room
 import growths_tasks as tasks
 from growths_harness import Program
 from harness import RELEASES
@@ -38,6 +42,8 @@ NOT_RUN = 3
 def are_right(program: Path, folder: Path, words: list[str]) -> bool:
     """Makes the runs that the words ask for; whether each was as it has to be."""
     refusing = Program(program, folder)
+    if words == ["room"]:
+        return room.are_right(refusing, folder)
     if words in (["script"], ["tasks"]):
         releases = folder / "releases"
         releases.symlink_to(RELEASES)

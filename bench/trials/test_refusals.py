@@ -10,6 +10,7 @@ from typing import Optional, Sequence
 import pytest
 
 import growths_lines
+import growths_room
 from growths_harness import Program, Ran, Refusals
 from growths_lines import Runs, Served
 from harness import RELEASES, Place
@@ -25,7 +26,8 @@ class Generous(Program):
     """A program to which no request for memory is refused, whatever is asked for."""
 
     def run(self, words: Sequence[str], folder: Path, given: bytes = b"",
-            refusals: Optional[Refusals] = None) -> tuple[Ran, bool]:
+            refusals: Optional[Refusals] = None,
+            around: Optional[dict[str, str]] = None) -> tuple[Ran, bool]:
         return super().run(words, folder, given)
 
 
@@ -87,3 +89,45 @@ def test_no_refusal_of_a_line_is_wanted(place: Place, monkeypatch: pytest.Monkey
     monkeypatch.setattr(growths_lines, "NONE_READ", ("OK", "END", "ERR"))
     assert not runs_on(place).are_right()
     assert "refused, as if memory had run out" in capsys.readouterr().out
+
+
+def rooms_on(place: Place, monkeypatch: pytest.MonkeyPatch, least: int = 1) -> bool:
+    """Whether few lines that have too little room are refused as often as they have to be."""
+    if shutil.which("cc") is None:
+        pytest.skip("there is no C compiler")
+    monkeypatch.setattr(growths_room, "LINES", ((IMPORTED[2:], least), ("TRIM", 0)))
+    monkeypatch.setattr(growths_room, "MERGED", b"OK 1 6 1 -\n")
+    return growths_room.are_right(Program(place.program, place.folder), place.folder)
+
+
+def test_all_is_right_with_little_room(place: Place, monkeypatch: pytest.MonkeyPatch,
+                                       capsys: pytest.CaptureFixture[str]) -> None:
+    assert rooms_on(place, monkeypatch), capsys.readouterr().out
+
+
+def test_there_is_always_room(place: Place, monkeypatch: pytest.MonkeyPatch,
+                              capsys: pytest.CaptureFixture[str]) -> None:
+    monkeypatch.setattr(growths_room, "STEP", TOO_MANY)
+    assert not rooms_on(place, monkeypatch, 2)
+    assert "IMPORT r1: refused 1\nNOT TRIED" in capsys.readouterr().out
+
+
+def test_more_refusals_for_want_of_room_are_wanted(place: Place, monkeypatch: pytest.MonkeyPatch,
+                                                   capsys: pytest.CaptureFixture[str]) -> None:
+    monkeypatch.setattr(growths_room, "LEAST_MADE", TOO_MANY)
+    monkeypatch.setattr(growths_room, "LEAST_OPENED", TOO_MANY)
+    assert not rooms_on(place, monkeypatch, TOO_MANY)
+    assert capsys.readouterr().out.count(f"NOT TRIED: {TOO_MANY} refusals of it are wanted") == 3
+
+
+def test_a_line_is_refused_that_takes_nothing(place: Place, monkeypatch: pytest.MonkeyPatch,
+                                              capsys: pytest.CaptureFixture[str]) -> None:
+    assert not rooms_on(place, monkeypatch, 0)
+    assert "NOT TRIED: no refusals of it are wanted" in capsys.readouterr().out
+
+
+def test_another_reply_with_room_is_expected(place: Place, monkeypatch: pytest.MonkeyPatch,
+                                             capsys: pytest.CaptureFixture[str]) -> None:
+    monkeypatch.setattr(growths_room.Model, "reply", lambda model, line: ["OK 1 6 1"])
+    assert not rooms_on(place, monkeypatch)
+    assert "WRONG: 'IMPORT r1': ['OK 1 6 0']" in capsys.readouterr().out

@@ -13,11 +13,9 @@ mod spelled;
 mod turns;
 mod watched;
 
-use case_files::Asked;
 use case_state::CaseState;
 use std::process::ExitCode;
 
 fn main(rt: HostRuntime) -> ExitCode {
-    let mut asked = Asked::new(rt.alloc(), CaseState::new(rt.alloc()));
-    case_files::run(&rt, "cases", &mut asked)
+    case_files::run(&rt, CaseState::new(rt.alloc()))
 }

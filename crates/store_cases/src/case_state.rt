@@ -2,19 +2,20 @@
 //! question.
 //!
 //! A question that begins with a number is a line of the protocol, such as `0 IMPORT r1`, which the
-//! store's server answers; `test_support::Releases` has the releases that it names. `holds` prints
-//! whether the store has exactly the rows of its first imports (`held.rt`), and `complete` imports
-//! the samples that it lacks.
+//! store's server answers; `test_support::Releases` has the releases that it names. `holds PART`
+//! prints whether the store has exactly those rows of a part that its imports bring (`held.rt`), and
+//! `complete` imports the samples that it lacks.
 
 use crate::calls::{call, is_refused, store_of};
 use crate::contradicting::ask_contradictions;
-use crate::disks::{ask_disk, changed, reopens};
+use crate::disks::{ask_disk, changed, reopens, sound_reads};
 use crate::held::Held;
 use crate::plain::{Plain, count_lookups, refuse, spell_sample};
 use case_files::{Answer, NoAnswer, two_words};
 use case_values::{first_word, number, spell_text};
 use disk_model::MemDisk;
 use std::alloc::Global;
+use std::io::{Read, Write};
 use test_support::{Example, Releases};
 
 /// How many rows the list of those that a store has to hold may have.
@@ -56,6 +57,21 @@ impl CaseState {
         self.store.as_mut().ok_or(NoAnswer::NoQuestion)
     }
 
+    /// Lets the server of the store answer the lines of an input, and prints what it returns.
+    pub fn serve<R: Read, W: Write>(
+        &mut self,
+        reads: u32,
+        input: &mut R,
+        output: &mut W,
+    ) -> Answer {
+        self.store()?;
+        let Some(store) = &mut self.store else {
+            return Err(NoAnswer::NoQuestion);
+        };
+        let answer = store.serve(&mut self.releases, reads, input, output);
+        Ok(format!(in self.alloc; "{answer:?}")?)
+    }
+
     /// The reply to a line of the protocol.
     fn reply(&mut self, line: &str) -> Answer {
         self.store()?;
@@ -68,26 +84,26 @@ impl CaseState {
         }
     }
 
-    /// Whether a pin shows exactly the rows of the first imports.
-    fn shows(&mut self, pin: u32) -> Result<bool, NoAnswer> {
+    /// Whether a pin shows exactly the rows of a part that the first imports bring.
+    fn shows(&mut self, part: &str, pin: u32) -> Result<bool, NoAnswer> {
         for place in 0..MOST_ROWS {
-            let Some(question) = self.held.question(place, pin)? else {
+            let Some((question, reply)) = self.held.question(part, place, pin)? else {
                 return Ok(true);
             };
-            if self.reply(&question)? != self.held.reply(place, pin)? {
+            if self.reply(&question)? != reply {
                 return Ok(false);
             }
         }
         Ok(false)
     }
 
-    /// Whether the store has exactly the rows of its first imports.
-    fn holds(&mut self) -> Answer {
+    /// Whether the store has exactly the rows of a part that its imports bring.
+    fn holds(&mut self, part: &str) -> Answer {
         let store = self.store()?;
         let (imports, rows) = (store.imports(), store.row_count());
-        let mut is_so = rows == self.held.count(imports);
+        let mut is_so = rows == self.held.count(part, imports)?;
         for pin in 0..=imports {
-            is_so = is_so && self.shows(pin)?;
+            is_so = is_so && self.shows(part, pin)?;
         }
         Ok(String::from_str(self.alloc, if is_so { "yes" } else { "no" })?)
     }
@@ -143,9 +159,10 @@ impl CaseState {
     /// Closes the store, answers a question about its disk, and opens it again.
     fn reopen(&mut self, word: &str, words: &str) -> Answer {
         let disk = self.close()?;
-        let answer = ask_disk(self.alloc, disk.bytes(), word, words)?;
+        let answer = ask_disk(self.alloc, &disk, word, words)?;
         let disk = changed(self.alloc, disk, word, words)?;
-        self.store = Some(store_of(Example::opened(self.alloc, disk))?);
+        let reads = sound_reads(word, words)?;
+        self.store = Some(store_of(Example::open_spoiled(self.alloc, disk, reads))?);
         Ok(answer)
     }
 
@@ -178,7 +195,7 @@ impl CaseState {
     /// Adds a line of a release, or a row that the store has to hold.
     pub fn give(&mut self, part: &str, word: &str, rest: &str) -> Result<(), NoAnswer> {
         match word {
-            "row" => self.held.give(rest),
+            "row" => self.held.give(part, rest),
             _ => self.releases.give(part, word, rest),
         }
     }
@@ -195,7 +212,7 @@ impl CaseState {
         match word {
             "contradictions" => self.contradictions(rest),
             "fresh" | "order" | "lost" | "lookups" | "sample" => self.ask_plain(word, rest),
-            "holds" => self.holds(),
+            "holds" => self.holds(rest),
             "complete" => self.complete(),
             "new" => {
                 self.store = None;
@@ -208,10 +225,6 @@ impl CaseState {
             _ if word.parse::<u16>().is_ok() => {
                 let line = format!(in alloc; "{word} {rest}")?;
                 self.reply(&line)
-            }
-            "changes" => {
-                let changes = self.close()?.changes();
-                Ok(format!(in alloc; "{changes}")?)
             }
             _ if reopens(word) => self.reopen(word, rest),
             _ => call(alloc, self.store()?, word, rest),

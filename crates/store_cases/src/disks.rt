@@ -8,26 +8,40 @@
 //!   the same with one byte of that call written.
 //!
 //! - `bytes FROM TO` prints the bytes of the disk from one offset up to another, in hexadecimal;
+//! - `changes` prints how many changing calls were made on the disk, of which the opening that
+//!   follows makes one;
+//! - `crash CHOICE LEFT` replaces the disk by what a crash leaves before the last LEFT changing
+//!   calls, and `spoil READS` by one with the same bytes, of which only so many reads are sound:
+//!   all further ones give zeros;
 //! - `turned FROM TO BITS` inverts these bits of each byte from one offset up to another, one byte
 //!   at a time, and prints how many of these changes leave a disk that isn't opened as a store
 //!   because it is damaged.
 //!
-//! `changes` closes the store and prints how many changing calls were made on the disk; a new store
-//! follows. `new` begins with a new store too, and `new-in-three` with one of layout 3.
+//! `new` begins with a new store, and `new-in-three` with one of layout 3.
 
 use crate::contents::lists;
 use case_files::{Answer, NoAnswer};
-use case_values::{first_word, number, spell_hex};
+use case_values::{first_word, number, spell_number, spell_part};
 use disk_model::MemDisk;
 use history_store::Refusal;
 use std::alloc::Global;
-use test_support::{Example, patch};
+use test_support::{Example, choice_of, image_before_end, patch};
 
 /// Whether the store is closed and opened again for this word.
 pub fn reopens(word: &str) -> bool {
     matches!(
         word,
-        "open" | "length" | "lists" | "bytes" | "turned" | "patch" | "break" | "torn"
+        "open"
+            | "length"
+            | "lists"
+            | "bytes"
+            | "turned"
+            | "patch"
+            | "break"
+            | "torn"
+            | "changes"
+            | "crash"
+            | "spoil"
     )
 }
 
@@ -62,23 +76,18 @@ fn count_turned(alloc: Global, bytes: &[u8], words: &str) -> Answer {
     Ok(format!(in alloc; "{damaged} of {count} damaged")?)
 }
 
-/// Answers a question about the bytes of a disk.
-pub fn ask_disk(alloc: Global, bytes: &[u8], word: &str, words: &str) -> Answer {
+/// Answers a question about a disk.
+pub fn ask_disk(alloc: Global, disk: &MemDisk, word: &str, words: &str) -> Answer {
+    let bytes = disk.bytes();
     match (word, words) {
-        ("length", "") => {
-            let length = bytes.len();
-            Ok(format!(in alloc; "{length}")?)
-        }
+        ("length", "") => spell_number(alloc, bytes.len() as u64),
+        ("changes", "") => spell_number(alloc, disk.changes()),
         ("lists", words) => {
             let is_so = lists(alloc, bytes, words)?;
             Ok(String::from_str(alloc, if is_so { "yes" } else { "no" })?)
         }
         ("turned", words) => count_turned(alloc, bytes, words),
-        ("bytes", words) => {
-            let (from, to) = first_word(words)?;
-            let bytes = bytes.get(number(from)?..number(to)?);
-            spell_hex(alloc, bytes.ok_or(NoAnswer::NoQuestion)?)
-        }
+        ("bytes", words) => spell_part(alloc, bytes, words),
         _ => Ok(String::from_str(alloc, "done")?),
     }
 }
@@ -110,6 +119,20 @@ pub fn changed(
             disk.set_break(number(words)?, u64::from(word == "torn"));
             Ok(disk)
         }
+        "crash" => {
+            let (choice, left) = first_word(words)?;
+            let image = image_before_end(&disk, number(left)?, choice_of(choice)?)?;
+            Ok(MemDisk::from_bytes(alloc, image))
+        }
+        "spoil" => Ok(MemDisk::from_bytes(alloc, disk.bytes().to_vec(alloc)?)),
         _ => Ok(disk),
+    }
+}
+
+/// How many reads of the disk that is opened are sound.
+pub fn sound_reads(word: &str, words: &str) -> Result<u64, NoAnswer> {
+    match word {
+        "spoil" => number(words),
+        _ => Ok(u64::MAX),
     }
 }

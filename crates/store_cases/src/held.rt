@@ -7,9 +7,10 @@ use case_files::{Answer, NoAnswer};
 use case_values::{first_word, number};
 use std::alloc::Global;
 
-/// A row of the list, and which component it is of.
+/// A row of a part, and which component it is of.
 #[derive(Drop)]
 struct Row {
+    part: String,
     import: u32,
     component: String,
     line: String,
@@ -32,11 +33,12 @@ impl Held {
     }
 
     /// Adds a row.
-    pub fn give(&mut self, words: &str) -> Result<(), NoAnswer> {
+    pub fn give(&mut self, part: &str, words: &str) -> Result<(), NoAnswer> {
         let (import, words) = first_word(words)?;
         let (kind, words) = first_word(words)?;
         let (id, line) = first_word(words)?;
         self.rows.push(Row {
+            part: String::from_str(self.alloc, part)?,
             import: number(import)?,
             component: format!(in self.alloc; "{kind} {id}")?,
             line: String::from_str(self.alloc, line)?,
@@ -44,33 +46,51 @@ impl Held {
         Ok(())
     }
 
-    /// How many rows the first imports bring.
-    pub fn count(&self, imports: u32) -> u64 {
-        self.rows.iter().filter(|row| row.import <= imports).count() as u64
+    /// How many rows of a part the first imports bring.
+    pub fn count(&self, part: &str, imports: u32) -> Result<u64, NoAnswer> {
+        let mut count = 0u64;
+        let mut is_known = false;
+        for row in &self.rows {
+            let is_of = row.part.as_str() == part;
+            is_known = is_known || is_of;
+            if is_of && row.import <= imports {
+                count = count.saturating_add(1);
+            }
+        }
+        if is_known {
+            Ok(count)
+        } else {
+            Err(NoAnswer::NoQuestion)
+        }
     }
 
     /// The question for the versions of the component at this position of the list, as a pin shows
-    /// them; none if there is no such position.
-    pub fn question(&self, place: usize, pin: u32) -> Result<Option<String>, NoAnswer> {
+    /// them, and the reply to it; none if there is no such position.
+    pub fn question(
+        &self,
+        part: &str,
+        place: usize,
+        pin: u32,
+    ) -> Result<Option<(String, String)>, NoAnswer> {
         match self.rows.get(place) {
             Some(row) => {
                 let component = &row.component;
-                Ok(Some(format!(in self.alloc; "0 AT {pin} HISTORY {component}")?))
+                let question = format!(in self.alloc; "0 AT {pin} HISTORY {component}")?;
+                Ok(Some((question, self.reply(part, component.as_str(), pin)?)))
             }
             None => Ok(None),
         }
     }
 
-    /// The reply to that question.
-    pub fn reply(&self, place: usize, pin: u32) -> Answer {
-        let row = self.rows.get(place).ok_or(NoAnswer::NoQuestion)?;
+    /// The reply to the question for the versions of a component.
+    fn reply(&self, part: &str, component: &str, pin: u32) -> Answer {
         let mut text = String::new(self.alloc);
         let mut count = 0u32;
-        for other in &self.rows {
-            if other.component == row.component && other.import <= pin {
-                text.push_str("ROW ")?;
-                text.push_str(&other.line)?;
-                text.push('\n')?;
+        for row in &self.rows {
+            let is_of = row.part.as_str() == part && row.component.as_str() == component;
+            if is_of && row.import <= pin {
+                let line = format!(in self.alloc; "ROW {}\n", row.line)?;
+                text.push_str(&line)?;
                 count = count.saturating_add(1);
             }
         }

@@ -1,6 +1,6 @@
 //! Streams that read and write bytes in small pieces, and fail.
 
-use case_files::number;
+use case_values::number;
 use std::alloc::Global;
 use std::cell::Cell;
 use std::io::{self, ErrorKind, Read, Write};
@@ -8,7 +8,7 @@ use std::io::{self, ErrorKind, Read, Write};
 /// Returns its bytes in pieces, and then the end, or a failure if one is given. After that it would
 /// return further bytes. At each read it notes how many bytes have been written so far.
 #[derive(Drop)]
-pub(crate) struct Pieces<'a> {
+pub struct Pieces<'a> {
     alloc: Global,
     rest: &'a [u8],
     /// The bytes that it would return after the end or the failure.
@@ -25,7 +25,7 @@ pub(crate) struct Pieces<'a> {
 
 impl<'a> Pieces<'a> {
     /// The bytes in pieces of these lengths, with what is written so far.
-    pub(crate) fn new(
+    pub fn new(
         alloc: Global,
         bytes: &'a [u8],
         lengths: &'a str,
@@ -44,13 +44,13 @@ impl<'a> Pieces<'a> {
     }
 
     /// Lets it end with a failure, if one is given, and then return these bytes.
-    pub(crate) fn end_with(&mut self, failure: Option<ErrorKind>, later: &'a [u8]) {
+    pub fn end_with(&mut self, failure: Option<ErrorKind>, later: &'a [u8]) {
         self.failure = failure;
         self.later = later;
     }
 
     /// How many bytes were written before each read.
-    pub(crate) fn noted(&self) -> &str {
+    pub fn noted(&self) -> &str {
         self.noted.as_str()
     }
 
@@ -74,10 +74,7 @@ impl<'a> Pieces<'a> {
             }
             None => self.lengths,
         };
-        match number(length) {
-            Ok(length) => length as usize,
-            Err(_) => 0,
-        }
+        number(length).unwrap_or(0)
     }
 
     /// Ends or fails.
@@ -108,11 +105,11 @@ impl Read for Pieces<'_> {
 
 /// Accepts `width` bytes at a time, as long as there is room, and counts them in `written`.
 #[derive(Drop)]
-pub(crate) struct Narrow<'a> {
-    pub(crate) taken: Vec<u8>,
-    pub(crate) width: usize,
-    pub(crate) room: usize,
-    pub(crate) written: &'a Cell<usize>,
+pub struct Narrow<'a> {
+    pub taken: Vec<u8>,
+    pub width: usize,
+    pub room: usize,
+    pub written: &'a Cell<usize>,
 }
 
 impl Write for Narrow<'_> {

@@ -1,11 +1,11 @@
 //! A disk in memory with a name that comes to refer to something else.
 //!
-//! `named BYTES` begins with an empty disk, to which its name refers as long as the disk has at
-//! most so many bytes. `missed` prints whether a write was refused since the name refers to
-//! something else, and `bytes FROM TO` bytes of the disk. All other questions are calls on the
-//! disk, as `case_values::call_disk` makes them.
+//! `named to BYTES` begins with an empty disk, to which its name refers as long as the disk has at
+//! most so many bytes. `named missed` prints whether a write was refused since the name refers to
+//! something else, and `named bytes FROM TO` bytes of the disk. All others, as `named write ..`, are
+//! calls on the disk, as `case_values::call_disk` makes them.
 
-use case_files::{Answer, Answers, NoAnswer};
+use case_files::{Answer, two_words};
 use case_values::{call_disk, number, spell_part};
 use command_line::{Name, NamedDisk};
 use disk_model::MemDisk;
@@ -41,47 +41,32 @@ fn named(alloc: Global, bytes: u64) -> NamedDisk<MemDisk, Sign> {
 
 /// The disk of a case.
 #[derive(Drop)]
-pub(crate) struct NamedDisks {
+pub struct Named {
     alloc: Global,
     disk: NamedDisk<MemDisk, Sign>,
 }
 
-impl NamedDisks {
+impl Named {
     /// With an empty disk, to which its name refers as long as it is empty.
-    pub(crate) fn new(alloc: Global) -> NamedDisks {
-        NamedDisks {
+    pub fn new(alloc: Global) -> Named {
+        Named {
             alloc,
             disk: named(alloc, 0),
         }
     }
 
-    /// Whether a write was refused since the name refers to something else.
-    fn spell_missed(&self) -> Answer {
-        let told = if self.disk.missed().is_some() {
-            "yes"
-        } else {
-            "no"
-        };
-        Ok(String::from_str(self.alloc, told)?)
-    }
-}
-
-impl Answers for NamedDisks {
-    fn begin(&mut self) {
-        self.disk = named(self.alloc, 0);
-    }
-
-    fn give(&mut self, _: &str, _: &str, _: &str) -> Result<(), NoAnswer> {
-        Err(NoAnswer::NoQuestion)
-    }
-
-    fn answer(&mut self, word: &str, rest: &str) -> Answer {
+    /// Answers a question about the disk.
+    pub fn answer(&mut self, words: &str) -> Answer {
+        let (word, rest) = two_words(words);
         match word {
-            "named" => {
+            "to" => {
                 self.disk = named(self.alloc, number(rest)?);
                 Ok(String::from_str(self.alloc, "done")?)
             }
-            "missed" => self.spell_missed(),
+            "missed" => {
+                let is_missed = self.disk.missed().is_some();
+                Ok(String::from_str(self.alloc, if is_missed { "yes" } else { "no" })?)
+            }
             "bytes" => spell_part(self.alloc, self.disk.disk().bytes(), rest),
             _ => call_disk(self.alloc, &mut self.disk, word, rest),
         }

@@ -4,7 +4,7 @@
 //! output that takes all that is written and whose flush fails. It prints the status, what is
 //! written to standard error, and the output.
 
-use case_files::{Answer, Answers, NoAnswer};
+use case_files::Answer;
 use case_values::spell_text;
 use command_line::{FileHost, run};
 use std::alloc::{AllocError, Global};
@@ -46,41 +46,23 @@ fn words_of(alloc: Global, word: &str) -> Result<Vec<String>, AllocError> {
     Ok(words)
 }
 
-/// Runs the program, and needs nothing of a case.
-#[derive(Drop)]
-pub(crate) struct Runs<'a> {
-    pub(crate) rt: &'a HostRuntime,
-}
-
-impl Answers for Runs<'_> {
-    fn begin(&mut self) {}
-
-    fn give(&mut self, _: &str, _: &str, _: &str) -> Result<(), NoAnswer> {
-        Err(NoAnswer::NoQuestion)
-    }
-
-    fn answer(&mut self, word: &str, rest: &str) -> Answer {
-        if word != "unwritten" {
-            return Err(NoAnswer::NoQuestion);
-        }
-        let alloc = self.rt.alloc();
-        let words = words_of(alloc, rest)?;
-        let taken = Vec::new(alloc);
-        let mut output = Unwritten { taken };
-        let mut faults = Vec::new(alloc);
-        let (status, _, _) = run(
-            &FileHost::new(self.rt),
-            &mut 0,
-            alloc,
-            &words,
-            &mut Unreadable,
-            &mut output,
-            &mut faults,
-        );
-        let faults = spell_text(alloc, &faults)?;
-        let taken = spell_text(alloc, &output.taken)?;
-        let told = format!(in alloc; "{status}\n{faults}{taken}")?;
-        let told = told.as_str();
-        Ok(String::from_str(alloc, told.strip_suffix('\n').unwrap_or(told))?)
-    }
+/// Runs the program with a word.
+pub fn unwritten(rt: &HostRuntime, word: &str) -> Answer {
+    let alloc = rt.alloc();
+    let words = words_of(alloc, word)?;
+    let taken = Vec::new(alloc);
+    let mut output = Unwritten { taken };
+    let mut faults = Vec::new(alloc);
+    let (status, _, _) = run(
+        &FileHost::new(rt),
+        &mut 0,
+        alloc,
+        &words,
+        &mut Unreadable,
+        &mut output,
+        &mut faults,
+    );
+    let faults = spell_text(alloc, &faults)?;
+    let taken = spell_text(alloc, &output.taken)?;
+    Ok(format!(in alloc; "{status}\n{faults}{}", taken.trim_end())?)
 }
