@@ -8,6 +8,8 @@ mod expanded;
 mod failing;
 mod index_questions;
 mod indexed;
+mod limits;
+mod numbered;
 mod plain_questions;
 mod spelled;
 mod turns;

@@ -11,6 +11,7 @@ use crate::contradicting::ask_contradictions;
 use crate::disks::{ask_disk, changed, reopens, sound_reads};
 use crate::held::Held;
 use crate::plain::{Plain, count_lookups, refuse, spell_sample};
+use crate::unspelled::count_unspelled;
 use case_files::{Answer, NoAnswer, two_words};
 use case_values::{first_word, number, spell_text};
 use disk_model::MemDisk;
@@ -214,6 +215,7 @@ impl CaseState {
             "fresh" | "order" | "lost" | "lookups" | "sample" => self.ask_plain(word, rest),
             "holds" => self.holds(rest),
             "complete" => self.complete(),
+            "unspelled" => count_unspelled(alloc, self.store()?, rest),
             "new" => {
                 self.store = None;
                 Ok(String::from_str(alloc, "done")?)

@@ -22,6 +22,7 @@ mod scripts;
 mod streams;
 mod trials;
 mod unknown;
+mod unspelled;
 mod unwritten;
 mod ways;
 

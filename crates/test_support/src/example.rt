@@ -1,8 +1,10 @@
 //! A wrapper around `Store` without contracts, which makes tests quick to prove.
 
+ghost use Rattle.std.specs.Prelude.{◌≤◌, IfSome};
+
 use crate::disks::Spoiled;
 use disk_model::MemDisk;
-use history_store::{Layout, Refusal, Store};
+use history_store::{Layout, Refusal, RowQuestion, Store};
 use import_check::{Contradictions, Release};
 use line_server::{Held, ServeFault, Source, serve};
 use rf2_rows::Key;
@@ -48,6 +50,16 @@ fn store_of(made: Result<Example, (Refusal, MemDisk)>) -> Result<Example, Refusa
         Ok(example) => Ok(example),
         Err((refusal, _)) => Err(refusal),
     }
+}
+
+/// The pin, unless there are fewer imports.
+fn pin_within(store: &Store<Spoiled>, pin: u32) -> Option<u32>
+    ensures { IfSome result (λ pin. pin ≤ store.now.history.imports) }
+{
+    if pin > store.imports() {
+        return None;
+    }
+    Some(pin)
 }
 
 impl Example {
@@ -116,6 +128,19 @@ impl Example {
         let mut output = Vec::new(self.alloc);
         self.serve(source, READS, &mut input, &mut output)?;
         Ok(output)
+    }
+
+    /// How many rows a question finds; none if there are fewer imports than the pin.
+    pub fn count(
+        &mut self,
+        question: &RowQuestion<'_>,
+        pin: u32,
+    ) -> Option<Result<usize, Refusal>> {
+        let pin = pin_within(&self.store, pin)?;
+        match self.store.select(question, pin) {
+            Ok(rows) => Some(Ok(rows.len())),
+            Err(refusal) => Some(Err(refusal)),
+        }
     }
 
     /// Merges up to this many more rows, or none, and returns how many are left.
