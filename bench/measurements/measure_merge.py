@@ -52,7 +52,8 @@ def concepts(place: str, rows: int) -> list[str]:
     for seed in SEEDS:
         release = os.path.join(place, str(seed))
         made_release(release, rows, seed)
-        found += [columns[0] for columns in drawn(os.path.join(release, "full"), "C", count, chance)]
+        full = os.path.join(release, "full")
+        found += [columns[0] for columns in drawn(full, "C", count, chance)]
     chance.shuffle(found)
     return found
 

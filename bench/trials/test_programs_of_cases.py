@@ -20,7 +20,7 @@ UNKNOWN = "it asks nothing that is known"
 NAMES = TOP / "crates" / "store_cases" / "data" / "cases" / "names.txt"
 UNWRITTEN = "\n= ".join(line[2:] for line in NAMES.read_text(encoding="utf-8").splitlines()
                         if line.startswith("= "))
-# Questions: the program, what stands before the case, a question, the answer to it, and another one.
+# Questions: the program, what stands before the case, a question, its answer, and another one.
 LINES = "part lines\ncall 0 STATUS\n"
 LOOK = "part look\ncall run lines\n"
 QUESTIONS = [
@@ -38,7 +38,8 @@ QUESTIONS = [
     ("store_cases", LINES, "run lines", "Ok(1)\n= OK 0 0 0 -", "Ok(1)\n= OK 0 0 1 -"),
     ("store_cases", LINES, "way lines reads 2", "Ok(1)\n= OK 0 0 0 -", "Ok(2)\n= OK 0 0 0 -"),
     ("store_cases", LINES, "way lines reads 1", "Err(Reads)\n= OK 0 0 0 -", "Ok(1)\n= OK 0 0 0 -"),
-    ("store_cases", LINES, "way lines room 5 pieces 4", "Err(Write)\n= OK 0 ", "Err(Write)\n= OK 0"),
+    ("store_cases", LINES, "way lines room 5 pieces 4", "Err(Write)\n= OK 0 ",
+     "Err(Write)\n= OK 0"),
     ("store_cases", LINES, "noted-way lines pieces 9 reads 9", "Ok(1)\n= 0+11\n= OK 0 0 0 -",
      "Ok(1)\n= 0+10\n= OK 0 0 0 -"),
     ("store_cases", LOOK + LINES, "before-end kept 0 look",
@@ -131,7 +132,8 @@ def test_another_number_of_questions(place: Place, program: str, before: str, qu
 def test_a_part_that_nobody_asks(place: Place, program: str, before: str, question: str,
                                  right: str, _: str) -> None:
     text = LINES + case_of(before, question, right)
-    told = f"FAILED the file: wrong.txt, line {text.count(chr(10))}: no case asks for one of its parts\n"
+    line = text.count("\n")
+    told = f"FAILED the file: wrong.txt, line {line}: no case asks for one of its parts\n"
     status, printed = run_with(program, place, text)
     assert told in printed and status == 1
 
