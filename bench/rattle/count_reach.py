@@ -43,7 +43,7 @@ HANDS_ON = re.compile(r"\bP\.stands")
 PROGRAM = "sctd"
 # Where the store's questions stand.
 STORE = "history_store/src"
-QUESTIONS = ("queries.rt",)
+QUESTIONS = ("queries.rt", "key_order.rt")
 
 
 class Found(NamedTuple):

@@ -64,6 +64,10 @@ ASSOCIATIONS = "Refset/Content/der2_cRefset_AssociationFull_INT_20200131.txt"
 ASSOCIATION_COLUMNS = ("id\teffectiveTime\tactive\tmoduleId\trefsetId\treferencedComponentId\t"
                        "targetComponentId\n")
 PARTS = "no folder Terminology or Refset/Content in it"
+# The package of the guide, a question for what a concept of it was called, and one of these terms.
+PACKAGE = TOP / "docs" / "package" / "Full"
+CALLED = "0 CALLED 2000001 20200630 900000000000509007\n"
+TERM = b"Path"
 MISSING, FAILED = "ERR 45 NoFolder", "ERR 2 DiskFault"
 
 # What stands at a path: a text, or what makes it.
@@ -367,6 +371,27 @@ def test_new_rights(place: Place, name: str, file: str, made: Callable[[Path], N
         made(path)
     ran = place.run("init", "--store", name, before=lambda: os.umask(0))
     assert (ran.output, mode(path)) == ("OK\n", rights)
+
+
+@pytest.mark.parametrize("words, is_usual", (([], True), (["--layout", "2"], False)))
+def test_first_session(place: Place, words: Sequence[str], is_usual: bool) -> None:
+    """Who says nothing of layouts, as in README's first session, gets a store that knows what a
+    concept is called, and that notices a bit of a term which was inverted. One of layout 2 refuses
+    the question, and doesn't notice the bit."""
+    store = place.path("first.store")
+    place.done("init", "--store", store, *words)
+    place.import_one(store, PACKAGE)
+    told = place.run("serve", "--store", store, "--releases", place.folder, given=CALLED).output
+    assert told.endswith("END 6\n" if is_usual else "ERR 14 LaterVersion\n")
+    assert (f"\t{TERM.decode()}\t" in told) == is_usual
+    found = bytearray(store.read_bytes())
+    found[found.index(TERM)] ^= 1
+    store.write_bytes(found)
+    ran = place.run("status", "--store", store)
+    if is_usual:
+        refused(ran, "ERR 8 Damaged", "the store is damaged: segment 1; restore your copy")
+    else:
+        assert ran.status == 0
 
 
 def test_help(place: Place) -> None:

@@ -2,6 +2,7 @@
 are imported while the gateway answers."""
 
 import asyncio
+import contextlib
 import os
 import re
 import signal
@@ -9,6 +10,7 @@ import socket
 import subprocess
 import sys
 import tempfile
+from collections.abc import Iterator
 from pathlib import Path
 
 import pytest
@@ -18,7 +20,7 @@ from sctd_service.gateway.store import View
 
 from .asked import Asked
 from .demo_releases import RELEASES
-from .fixtures import SCT, SECONDS, SERVICE, Gateway, Service, issue, told, version
+from .fixtures import SCT, SECONDS, SERVICE, Gateway, Service, begun_hub, issue, told, version
 
 LOOKUP = "CodeSystem/$lookup"
 MEMORY_KB = 200_000
@@ -166,6 +168,55 @@ class TestHub(Asked):
         assert [client.recv(1 << 20)[-1:] for client in clients[::2]] == [b"", b""]
         assert self.gateway.told() == ""
         assert not os.path.exists(self.gateway.socket)
+
+
+class TestReaders:
+    """Hubs that only read one store, at the same time."""
+
+    @pytest.fixture
+    def stopped(self) -> Iterator[Service]:
+        service = Service()
+        service.stop_hub()
+        yield service
+        service.end()
+
+    def hub_words(self, service: Service, name: str) -> tuple[str, ...]:
+        words = (service.hub_script, service.program, service.store, str(service.releases))
+        return *words, "--questions", "%s/%s" % (service.folder.name, name)
+
+    def ask(self, path: str, line: str) -> str:
+        with socket.socket(socket.AF_UNIX) as hub:
+            hub.settimeout(SECONDS)
+            hub.connect(path)
+            with hub.makefile("rw") as stream:
+                stream.write(line + "\n")
+                stream.flush()
+                return stream.readline().rstrip("\n")
+
+    def test_nobody_changes_what_two_read(self, stopped: Service) -> None:
+        with contextlib.ExitStack() as hubs:
+            for name in ("one", "other"):
+                hub = begun_hub(*self.hub_words(stopped, name), "--read-only")
+                hubs.enter_context(hub)
+                hubs.callback(hub.terminate)
+            for name in ("one", "other"):
+                path = "%s/%s" % (stopped.folder.name, name)
+                assert self.ask(path, "STATUS").startswith("OK %d " % len(RELEASES))
+                assert self.ask(path, "MERGE").startswith("ERR ")
+            _, program, store, releases, *sockets = self.hub_words(stopped, "writer")
+            words = ["--program", program, "--store", store, "--releases", releases, *sockets]
+            writer = subprocess.run([sys.executable, stopped.hub_script, *words], check=False,
+                                    capture_output=True, text=True, timeout=SECONDS)
+            assert (writer.returncode, writer.stdout) == (1, "ERR 2 DiskFault\n")
+
+    @pytest.mark.parametrize("more", (["--make-store"], ["--socket", "/nowhere"]))
+    def test_words_that_change_a_store(self, stopped: Service, more: list[str]) -> None:
+        _, program, store, releases, *sockets = self.hub_words(stopped, "one")
+        words = ["--program", program, "--store", store, "--releases", releases, *sockets]
+        done = subprocess.run([sys.executable, stopped.hub_script, *words, "--read-only", *more],
+                              check=False, capture_output=True, text=True, timeout=SECONDS)
+        assert (done.returncode, done.stdout) == (2, "")
+        assert "--read-only goes with --questions alone" in done.stderr
 
 
 class TestStart:

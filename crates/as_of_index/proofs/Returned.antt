@@ -11,7 +11,7 @@ use Rattle.segment.specs.Standing.{StandsAt}
 use Rattle.as_of_index.specs.Reader.{ReaderView, IsReturned, IsReadFor}
 use Rattle.as_of_index.proofs.Reading.{HasRead}
 
-zip_append : {A B : Type 0} (R : A → B → Type 0) (xs us : List A) (ys vs : List B) → AllZip R xs ys → AllZip R us vs → AllZip R (xs ++ us) (ys ++ vs)
+pub zip_append : {A B : Type 0} (R : A → B → Type 0) (xs us : List A) (ys vs : List B) → AllZip R xs ys → AllZip R us vs → AllZip R (xs ++ us) (ys ++ vs)
 zip_append R [] us [] vs each more = more
 zip_append R [] us (y ∷ ys) vs each more = absurd each
 zip_append R (x ∷ xs) us [] vs each more = absurd each

@@ -103,9 +103,12 @@ fn mode_of(action: &Action<'_>) -> Mode
 {
     match action {
         Action::Init { .. } => Mode::OpenOrMake,
-        Action::Use(Work::Serve {
-            read_only: true, ..
-        }) => Mode::OpenToRead,
+        Action::Use(
+            Work::Serve {
+                read_only: true,
+                ..
+            },
+        ) => Mode::OpenToRead,
         Action::Copy { .. } | Action::Use(_) => Mode::Open,
     }
 }
@@ -302,7 +305,14 @@ fn do_work<'a, H: Host, I: Read, O: Write, E: Write>(
             read_only,
         } => {
             let mut source = FolderSource::new(host, *releases, faults, "importing", true);
-            serve_all(alloc, &mut source, store, input, output, held_of(*read_only))
+            serve_all(
+                alloc,
+                &mut source,
+                store,
+                input,
+                output,
+                held_of(*read_only),
+            )
         }
         Work::Status => {
             let ended = tell_status(alloc, store, output);

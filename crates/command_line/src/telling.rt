@@ -26,7 +26,7 @@ reach 4 GiB"
         7 => "the file is no store",
         8 => "the store is damaged; restore your copy",
         13 => "import numbers or epochs ran out",
-        14 => "that needs layout 3, into which sctd copy --layout 3 brings a store",
+        14 => "a copy's layout can't be lower than that of its store",
         20 => "a line is over 65,535 bytes",
         21 => "it isn't UTF-8",
         22 => "the first line isn't the column names of its kind",

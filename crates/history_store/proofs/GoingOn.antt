@@ -23,7 +23,7 @@ use Rattle.store_image.specs.Kept.{segment_with}
 use Rattle.directory.specs.Places.{AreBeside, extent_of, extents_of}
 use Rattle.directory.specs.Fit.{fit}
 use Rattle.directory.proofs.Fitting.{fit_is_apart}
-use Rattle.segment.specs.Records.{segment_in, segment_of}
+use Rattle.segment.specs.Records.{segment_of}
 use Rattle.segment.proofs.SegmentLaws.{length-segment_in}
 use Rattle.store_image.proofs.Beside.{blocks_cover, one_ends}
 use Rattle.store_image.proofs.Unlisted.{begins_elsewhere}

@@ -19,13 +19,14 @@ use Rattle.history_store.specs.declared.refusal.Refusal.{Refusal}
 use Rattle.history_store.specs.declared.refusal.Refusal.TheVariants as refusals
 use Rattle.history_store.specs.Private.Reading.{AreThere, MomentsStay}
 use Rattle.history_store.specs.Reading.{row_cost}
-use Rattle.history_store.specs.Stored.{MayBe}
+use Rattle.history_store.specs.Catalog.{Catalog}
+use Rattle.history_store.specs.Stored.{MayBe, IsStored}
 use Rattle.history_store.specs.Refusals.{of_read}
 use Rattle.history_store.specs.StoreValue.{StoreValue, IsAcknowledged}
 use Rattle.history_store.specs.Answers.{Counts, IsRefused, IsReadingOf}
 use Rattle.history_store.specs.Queries.{IsQuery, IsStoredFor, IsRowsQueryOf, IsWithoutRead, is_listed}
 use Rattle.history_store.proofs.Refusing.{read_undamaged}
-use Rattle.history_store.proofs.Returned.{for_weaker, rows_exact, stored_for}
+use Rattle.history_store.proofs.Returned.{for_weaker, rows_exact, stored_for, stored_so}
 
 -- what was read, as the store answers it
 abbrev answer_of : {T : Type 0} → Result T ReadFault → Result T Refusal
@@ -67,6 +68,13 @@ read_beside (Ok x) old new disk cache r = record { history = r.history; catalog 
 read_beside (Err readfault.OutOfMemory) old new disk cache r = (r.0, refused_beside _ old new disk cache r.1)
 read_beside (Err readfault.DiskFault) old new disk cache r = (r.0, refused_beside _ old new disk cache r.1)
 read_beside (Err readfault.Damaged) old new disk cache r = (r.0, refused_beside _ old new disk cache r.1)
+
+-- the list of segments is unchanged
+catalog_kept : {T D : Type 0} (read : Result T ReadFault) (old new : StoreValue D) → IsReadingOf (answer_of read) old new → new.catalog ≡ old.catalog
+catalog_kept (Ok x) old new r = r.catalog
+catalog_kept (Err readfault.OutOfMemory) old new r = r.1.catalog
+catalog_kept (Err readfault.DiskFault) old new r = r.1.catalog
+catalog_kept (Err readfault.Damaged) old new r = r.1.catalog
 
 -- the rows were read, and what was read is answered
 pub answered_query : {T D : Type 0} (view : D → DiskView) (old new : StoreValue D) (lent disk : D) (cache : LruCache ℕ (List ℕ)) (read : Result T ReadFault) (result : Result T Refusal)
@@ -117,17 +125,33 @@ module _ {T D : Type 0} (view : D → DiskView) (rows_of : T → List RowValue) 
     abbrev pub BoundOf : List (List StampedRow) → D → D → Type 0
     BoundOf ls before after = (view after).bytes_read ≤ (view before).bytes_read + sum_by row_cost (wanted (listed ls))
 
-    pub rows_answered : (put_in_order : Bool) {left : List (List StampedRow)} {is_honest : Type 0} {may_be : ℕ → RowPlace → StampedRow → Type 0} {m n : ℕ} → old.history.rows ≡ listed lists → old.needs_reopen ≡ false
+    -- what is stored once the rows were read was stored before
+    steady_after : (left : List Entry) → lent ≡ old.disk → lent_cache ≡ old.cache → entries ≡ old.catalog.entries → left ≡ entries → new.disk ≡ disk → new.cache ≡ cache → new.catalog ≡ old.catalog
+        → ((segment : ℕ) (at : RowPlace) (row : StampedRow) → MayBe (view disk).reads_as cache left segment at row → MayBe (view lent).reads_as lent_cache entries segment at row)
+        → (row : RowValue) → IsStored view new row → IsStored view old row
+    steady_after left lent_is lent_cache_is entries_are left_is same kept catalog steady row s =
+        stored_so view old lent lent_cache entries lent_is lent_cache_is entries_are row (
+          s.0,
+          s.1,
+          s.2,
+          s.3,
+          steady s.2 s.3 s.0
+              (subst (λ (e : List Entry). MayBe (view disk).reads_as cache e s.2 s.3 s.0) (ap (λ (c : Catalog). c.entries) catalog ∙ sym entries_are ∙ sym left_is)
+              (subst (λ c. MayBe (view disk).reads_as c new.catalog.entries s.2 s.3 s.0) kept
+              (subst (λ d. MayBe (view d).reads_as new.cache new.catalog.entries s.2 s.3 s.0) same s.4))),
+        )
+
+    pub rows_answered : (put_in_order : Bool) {left : List (List StampedRow)} {is_honest : Type 0} {left_entries : List Entry} {m n : ℕ} → left_entries ≡ entries → old.history.rows ≡ listed lists → old.needs_reopen ≡ false
         → lent ≡ old.disk → lent_cache ≡ old.cache → entries ≡ old.catalog.entries → shown ≡ lists
         → Indexed lists → ((view old.disk).is_honest → IsHonestReader)
-        → IsRowsReadBy put_in_order read rows_of (λ ls. wanted (listed ls)) Indexed row_cost (shown_of lent shown IsHonestReader (MayBe (view lent).reads_as lent_cache entries) m) (shown_of disk left is_honest may_be n)
+        → IsRowsReadBy put_in_order read rows_of (λ ls. wanted (listed ls)) Indexed row_cost (shown_of lent shown IsHonestReader (MayBe (view lent).reads_as lent_cache entries) m) (shown_of disk left is_honest (MayBe (view disk).reads_as cache left_entries) n)
         → MomentsStay (view lent).is_honest (view disk).is_honest (view lent).moments (view disk).moments
         → LooksUpSome (is_listed entries) lent_cache cache (view lent).bytes_read (view disk).bytes_read
         → (view disk).other_calls ≡ (view lent).other_calls
         → IsAnswerOf read result → IsReadingOf result (record old { disk = disk; cache = cache }) new → new.disk ≡ disk → new.cache ≡ cache
         → ((view disk).is_honest → new.needs_reopen ≡ false → IsAcknowledged view new)
         → IsRowsQueryOf put_in_order result rows_of wanted view old new
-    rows_answered put_in_order {m = m} rows_are still lent_is lent_cache_is entries_are shown_is indexed lends read_so stays looked_up calls answers left same kept acknowledged =
+    rows_answered put_in_order {left_entries = left_entries} {m = m} left_is rows_are still lent_is lent_cache_is entries_are shown_is indexed lends read_so stays looked_up calls answers answers_left same kept acknowledged =
         let rows = read_so.rows (subst Indexed (sym shown_is) indexed) in
         let same_wanted = ap (λ ls. wanted (listed ls)) shown_is ∙ ap wanted (sym rows_are) in
         let lent_shown : ReaderView = shown_of lent shown IsHonestReader (MayBe (view lent).reads_as lent_cache entries) m in
@@ -135,8 +159,9 @@ module _ {T D : Type 0} (view : D → DiskView) (rows_of : T → List RowValue) 
           found = λ up. answered_so (λ x. AreFor put_in_order (IsReadFor lent_shown) (rows_of x) (wanted (listed shown))) (λ x. rows_of x ≡ wanted old.history.rows) read result answers (λ x each. rows_exact lent_shown put_in_order (rows_of x) _ each (lends up) ∙ same_wanted) rows.each;
           stored = answered_so (λ x. AreFor put_in_order (IsReadFor lent_shown) (rows_of x) (wanted (listed shown))) (λ x. AreFor put_in_order (IsStoredFor view old) (rows_of x) (wanted old.history.rows)) read result answers
               (λ x each. subst (AreFor put_in_order (IsStoredFor view old) (rows_of x)) same_wanted (for_weaker put_in_order (IsReadFor lent_shown) (IsStoredFor view old) (stored_for lent_shown view old lent lent_cache entries lent_is lent_cache_is entries_are (λ segment at s may. may)) (rows_of x) _ each)) rows.each;
+          steady = steady_after left_entries lent_is lent_cache_is entries_are left_is same kept (catalog_kept read (record old { disk = disk; cache = cache }) new (subst (λ r. IsReadingOf r (record old { disk = disk; cache = cache }) new) (is_answer read result answers) answers_left)) read_so.reader.steady;
           causes = λ none. subst (λ r. IfErr r IsWithoutRead) (sym (is_answer read result answers)) (caused_answer read (rows.causes (same_wanted ∙ none)));
-          query = answered_query view old new lent disk cache read result still lent_is stays read_so.reader.disk_faults (λ up. rows.undamaged (lends up)) answers left same acknowledged;
+          query = answered_query view old new lent disk cache read result still lent_is stays read_so.reader.disk_faults (λ up. rows.undamaged (lends up)) answers answers_left same acknowledged;
           other_calls = ap (λ d. (view d).other_calls) same ∙ calls ∙ ap (λ d. (view d).other_calls) lent_is;
           looked_up =
               subst (λ d. LooksUpSome (is_listed old.catalog.entries) old.cache new.cache (view old.disk).bytes_read (view d).bytes_read) (sym same)
@@ -158,6 +183,7 @@ module _ {T D : Type 0} (view : D → DiskView) (rows_of : T → List RowValue) 
   closed_rows put_in_order s needs = record {
     found = λ up. tt;
     stored = tt;
+    steady = λ row stored. stored;
     causes = λ none. tt;
     query = closed_query {T = T} view s needs;
     other_calls = refl;

@@ -105,7 +105,8 @@ pub record IsStoredFor {D : Type 0} (view : D → DiskView) (store : StoreValue 
 -- every disk each row of the answer is stored, with the key of a wanted one, as `AreFor` says; no
 -- calls but reads are made, cached blocks aren't read again, and no more is read than the rows of
 -- the answer take. Whatever the result, no more is read than the wanted rows take, each counted
--- once. If no row is wanted, the disk doesn't fail, and none is damaged.
+-- once, and a row that is stored by what is read from then on was stored before. If no row is
+-- wanted, the disk doesn't fail, and none is damaged.
 pub record IsRowsQueryOf {T D : Type 0} (put_in_order : Bool) (result : Result T Refusal)
     (rows_of : T → List RowValue) (wanted : List StampedRow → List RowValue)
     (view : D → DiskView) (old new : StoreValue D) : Type 0 where
@@ -113,6 +114,7 @@ pub record IsRowsQueryOf {T D : Type 0} (put_in_order : Bool) (result : Result T
       → IfOk result (λ x. rows_of x ≡ wanted old.history.rows)
   pub stored : IfOk result (λ x. AreFor put_in_order (IsStoredFor view old) (rows_of x)
       (wanted old.history.rows))
+  pub steady : (row : RowValue) → IsStored view new row → IsStored view old row
   pub causes : wanted old.history.rows ≡ [] → IfErr result IsWithoutRead
   pub query : IsQuery result view old new
   pub other_calls : (view new.disk).other_calls ≡ (view old.disk).other_calls

@@ -172,7 +172,7 @@ unasked_left view seen (ForIds ids) refusal s = refl
 unasked_left view seen Dates refusal s = refl
 unasked_left view seen (AskReceipt other) refusal s = refl
 unasked_left view seen (Added number kind after limit) refusal s = ((λ h. refl, none_looks_up (is_listed s.catalog.entries) s.cache (view s.disk).bytes_read, refl), tt, omega arith)
-unasked_left view seen Digest refusal s = ((λ h. refl, none_looks_up (is_listed s.catalog.entries) s.cache (view s.disk).bytes_read, refl), omega arith)
+unasked_left view seen Digest refusal s = ((λ h. refl, none_looks_up (is_listed s.catalog.entries) s.cache (view s.disk).bytes_read, refl), tt, omega arith)
 unasked_left view seen (ForRows question) refusal s = ((λ h. refl, none_looks_up (is_listed s.catalog.entries) s.cache (view s.disk).bytes_read, refl), tt, omega arith)
 
 -- ---- ADDED

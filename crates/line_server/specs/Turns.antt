@@ -27,10 +27,11 @@ use Rattle.question_model.specs.Questions.{RowQuestion, AllRows}
 use Rattle.question_model.specs.Wanted.{rows_for}
 use Rattle.line_commands.specs.Commands.{Command, Ask, At, Import, Check, Step, Publish, Trim}
 use Rattle.line_commands.specs.Requests.{Asks}
+use Rattle.store_digest.specs.Digest.{IsDigestFor}
 use Rattle.line_server.specs.declared.refusal.LineRefusal.{LineRefusal}
 use Rattle.line_server.specs.declared.refusal.LineRefusal.TheVariants as refusals
 use Rattle.line_server.specs.Sources.{Releases, SourceView, scope_of}
-use Rattle.line_server.specs.ReplyValue.{Answer, Rows, ReplyValue, reply_value, bytes_of}
+use Rattle.line_server.specs.ReplyValue.{Answer, Rows, ReplyValue, reply_value, bytes_of, digits_of}
 use Rattle.line_server.specs.declared.held.Held.{Held}
 use Rattle.line_server.specs.StateValue.{met_after}
 use Rattle.line_server.specs.Replies.{Server, Replies, AsksNoRelease, imports_seen}
@@ -96,6 +97,14 @@ LeavesRead view question wanted outcome old new =
     LeavesQueried view old new × AreReadFrom view question wanted outcome old new
     × ((view new.disk).bytes_read ≤ (view old.disk).bytes_read + sum_by row_cost wanted)
 
+-- the digest that is answered is of rows which are read from the disk: each is stored there, with
+-- the key of the one that is shown in its place
+abbrev pub IsDigestRead : {D : Type 0} → (D → DiskView) → (shown : List RowValue)
+    → Result Answer LineRefusal → StoreValue D → Type 0
+IsDigestRead view shown (Ok answer) old = (digest : List ℕ) × (answer ≡ digits_of digest)
+    × IsDigestFor (IsStoredFor view old) digest shown
+IsDigestRead view shown (Err refusal) old = Unit {0}
+
 -- what a question about the first `seen` imports leaves of the disk, which is unchanged if the
 -- index alone answers it
 abbrev pub LeavesAsked : {D : Type 0} → (D → DiskView) → ℕ → Question → Result Answer LineRefusal
@@ -105,6 +114,7 @@ LeavesAsked view seen (ForRows question) outcome old new =
 LeavesAsked view seen (ForIds question) outcome old new = new.disk ≡ old.disk
 LeavesAsked view seen Dates outcome old new = new.disk ≡ old.disk
 LeavesAsked view seen Digest outcome old new = LeavesQueried view old new
+    × IsDigestRead view (rows_at seen old.history.rows) outcome old
     × ((view new.disk).bytes_read
     ≤ (view old.disk).bytes_read + sum_by row_cost (rows_at seen old.history.rows))
 LeavesAsked view seen (Receipt number) outcome old new = new.disk ≡ old.disk

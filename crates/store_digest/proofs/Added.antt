@@ -8,6 +8,8 @@ use Rattle.rf2_values.specs.declared.key.Key.{Key}
 use Rattle.rf2_values.specs.Row.{RowValue}
 use Rattle.rf2_values.specs.Key.{key_of}
 use Rattle.history_model.specs.KeyOrder.{is_after, rows_after}
+use Rattle.history_model.specs.History.{rows_at}
+use Rattle.as_of_index.specs.Reader.{AreFor}
 use Rattle.disk_model.specs.View.{DiskView}
 use Rattle.history_store.specs.StoreValue.{StoreValue}
 use Rattle.history_store.specs.Queries.{IsRowsQueryBy, IsStoredFor}
@@ -45,10 +47,11 @@ module _ {D : Type 0} (view : D → DiskView) (pin : ℕ) (after : Option Key) (
       record {
         hashed = record {
           read = row ∷ [];
-          keys = ap (map key_of) (sym one) ∙ keys;
+          each = subst (λ (xs : List RowValue). AreFor false (IsStoredFor view old) xs (rows_after after 1 (rows_at pin old.history.rows))) one q.stored;
           found = λ h. sym one ∙ q.found h;
           holds = λ m holding. subst (λ t. Holds256 more (m ++ t)) text (holds m holding);
         };
+        steady = q.steady;
         key = ap (λ k. k ∷ []) key_is ∙ ap (map key_of) (sym one) ∙ keys;
         causes = λ none. tt;
         query = answered_otherwise view old new x (Some key) q.query;
@@ -62,10 +65,11 @@ module _ {D : Type 0} (view : D → DiskView) (pin : ℕ) (after : Option Key) (
       let keys = keyed_same (IsStoredFor view old) (λ x y r. r.key) (rows_of x) _ q.stored in record {
         hashed = record {
           read = [];
-          keys = ap (map key_of) (sym none) ∙ keys;
+          each = subst (λ (xs : List RowValue). AreFor false (IsStoredFor view old) xs (rows_after after 1 (rows_at pin old.history.rows))) none q.stored;
           found = λ h. sym none ∙ q.found h;
           holds = λ m holding. subst (Holds256 hasher) (sym (append-nil m)) holding;
         };
+        steady = q.steady;
         key = ap (map key_of) (sym none) ∙ keys;
         causes = λ none. tt;
         query = answered_otherwise view old new x None q.query;

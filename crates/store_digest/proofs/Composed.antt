@@ -4,6 +4,8 @@ use Rattle.disk_model.specs.View.{DiskView}
 use Rattle.blocks.proofs.Looked.{none_looks_up, some_more}
 use Rattle.history_store.specs.declared.refusal.Refusal.{Refusal}
 use Rattle.history_store.specs.declared.refusal.Refusal.TheVariants as refusals
+use Rattle.rf2_values.specs.Row.{RowValue}
+use Rattle.history_store.specs.Stored.{IsStored}
 use Rattle.history_store.specs.StoreValue.{StoreValue}
 use Rattle.history_store.specs.Answers.{Counts, IsReadingOf, IsReadRefusal}
 use Rattle.history_store.specs.Queries.{IsQuery, ReadsThroughCache, is_listed}
@@ -20,6 +22,7 @@ module _ {D : Type 0} (view : D → DiskView) where
     pub failures : (view now.disk).failures ≡ (view old.disk).failures
     pub other_calls : (view now.disk).other_calls ≡ (view old.disk).other_calls
     pub looked_up : ReadsThroughCache view old now
+    pub steady : (row : RowValue) → IsStored view now row → IsStored view old row
 
   pub not_asked : (old : StoreValue D) → IsAsked old old
   not_asked old = record {
@@ -32,6 +35,7 @@ module _ {D : Type 0} (view : D → DiskView) where
     failures = refl;
     other_calls = refl;
     looked_up = none_looks_up (is_listed old.catalog.entries) old.cache (view old.disk).bytes_read;
+    steady = λ row stored. stored;
   }
 
   module _ (old now new : StoreValue D) (asked : IsAsked old now) where
@@ -62,8 +66,9 @@ module _ {D : Type 0} (view : D → DiskView) where
     }
 
     -- a question was answered
-    pub asked_then : {T : Type 0} (x : T) → IsQuery (Ok x) view now new → (view new.disk).other_calls ≡ (view now.disk).other_calls → ReadsThroughCache view now new → IsAsked old new
-    asked_then x q others looked = record {
+    pub asked_then : {T : Type 0} (x : T) → IsQuery (Ok x) view now new → (view new.disk).other_calls ≡ (view now.disk).other_calls → ReadsThroughCache view now new
+        → ((row : RowValue) → IsStored view new row → IsStored view now row) → IsAsked old new
+    asked_then x q others looked steady = record {
       history = q.read.history ∙ asked.history;
       catalog = q.read.catalog ∙ asked.catalog;
       needs_reopen = q.read.open_still ∙ sym q.read.open_before ∙ asked.needs_reopen;
@@ -73,6 +78,7 @@ module _ {D : Type 0} (view : D → DiskView) where
       failures = q.failures ∙ asked.failures;
       other_calls = others ∙ asked.other_calls;
       looked_up = looked_up_then looked;
+      steady = λ row stored. asked.steady row (steady row stored);
     }
 
   -- what was answered last is answered otherwise

@@ -144,7 +144,7 @@ async def serve(options: argparse.Namespace) -> int:
         return 1
     if options.make_store:
         opening.make(options.program, options.store)
-    opening.drop_pages(options.store)
+    opening.drop_pages(options.store, options.read_only)
     words = [options.program, "serve", "--store", options.store, "--releases", options.releases]
     program = await Program.start(words + ["--read-only"] * options.read_only)
     try:
@@ -210,6 +210,8 @@ def options_of(words: list[str]) -> argparse.Namespace:
         parser.error("--socket or --questions has to be given")
     if options.read_only and (options.socket or options.make_store):
         parser.error("--read-only goes with --questions alone")
+    if options.read_only:
+        options.merge_above = MOST_SEGMENTS
     if options.socket == options.questions:
         parser.error("--socket and --questions are the same path")
     if options.group is not None and not options.questions:

@@ -44,11 +44,12 @@ def leave_note(note: Path, name: str) -> None:
         note.write_text(NOTED % (now, name), encoding="utf-8")
 
 
-def drop_pages(store: str) -> None:
+def drop_pages(store: str, is_read_only: bool) -> None:
     """Drops what memory has of the store's file, so that the program reads it from the disk. Why a
     file can't be opened is the program's to say."""
+    access = os.O_RDONLY if is_read_only else os.O_WRONLY
     try:
-        file = os.open(store, os.O_WRONLY | os.O_CLOEXEC | os.O_NONBLOCK)
+        file = os.open(store, access | os.O_CLOEXEC | os.O_NONBLOCK)
     except OSError:
         return
     try:

@@ -3,7 +3,6 @@ use Rattle.std.specs.Prelude.{◌≡◌, ◌^◌, ◌<◌, Option, Some, List, [
 use Rattle.history_model.specs.declared.stamped.StampedRow.{StampedRow}
 use Rattle.history_model.specs.History.{IsHistory}
 use Rattle.history_model.specs.Lists.{AreLists}
-use Rattle.directory.specs.declared.entry.Entry.{Entry}
 use Rattle.blocks.specs.declared.extent.Extent.{Extent}
 use Rattle.directory.specs.Listings.{DirectoryValue, HasSumOf, IsListing, IsEntry, form_in}
 use Rattle.directory.specs.Listings.{most_entries, next_layout, with_entry}

@@ -18,12 +18,12 @@ returns-in_err-key g c =
 pub rows-smaller : goal.rows-smaller
 rows-smaller g c =
     let d = g.D.Disk in
-    fewer d.view c.args.pin c.args.store.now c.rows.store c.add_next.new.store c.rows.hasher c.add_next.new.hasher c.rows.last c.rows.invariant g.met.D.Disk.now_is_image c.in-Some.key (rw c.in-Some.is at c.in_ok-key.ensures.added)
+    fewer d.view c.args.pin c.args.store.now c.rows.store c.add_next.new.store c.rows.hasher c.add_next.new.hasher c.rows.last c.rows.invariant c.in-Some.key (rw c.in-Some.is at c.in_ok-key.ensures.added)
 
 pub rows-preserved : goal.rows-preserved
 rows-preserved g c =
     let d = g.D.Disk in
-    gone_on d.view c.args.pin c.args.store.now c.rows.store c.add_next.new.store c.rows.hasher c.add_next.new.hasher c.rows.last c.rows.invariant g.met.D.Disk.now_is_image c.in-Some.key (rw c.in-Some.is at c.in_ok-key.ensures.added)
+    gone_on d.view c.args.pin c.args.store.now c.rows.store c.add_next.new.store c.rows.hasher c.add_next.new.hasher c.rows.last c.rows.invariant c.in-Some.key (rw c.in-Some.is at c.in_ok-key.ensures.added)
 
 pub returns : goal.returns
 returns g c = record {

@@ -1,4 +1,4 @@
-use Rattle.std.proofs.Common.{false, refl}
+use Rattle.std.proofs.Common.{false, refl, ap}
 use Rattle.history_model.specs.KeyOrder.{rows_after}
 use Rattle.as_of_index.specs.Places.{Lists}
 use Rattle.history_model.specs.History.{rows_at}
@@ -21,7 +21,7 @@ returns-clause-answer g c = rw (← c.self.view_is) (
     rows_answered g.D.Disk.view row_items (λ rows. rows_after c.args.after c.args.limit (rows_at c.args.pin rows))
     (Lists c.places.result.now) _ c.answered.new.self c.self.inside.index c.new-reader.result.shown.now c.new-reader.result.entries.now
     c.new-reader.result.disk.now c.rows_after-read.new.reader.disk.now c.new-reader.result.cache.now c.rows_after-read.new.reader.cache.now c.rows_after-read.result c.answered.result
-    false refl c.if-self.false r.disk r.cache r.entries r.shown
+    false (ap (λ e. e.now) e.stays.3) refl c.if-self.false r.disk r.cache r.entries r.shown
     c.places.ensures (λ up. reader_honest g.D.Disk.view _ _ _ _ _ _ _ _ _ _ c.self.invariant.0 r.disk r.cache r.entries r.shown up c.if-self.false (g.met.D.Disk.now_is_image c.self.inside.disk up))
     e.answer e.stays.0 e.stays.5 e.stays.6 a.same a.left a.disk a.cache a.acknowledged)
 

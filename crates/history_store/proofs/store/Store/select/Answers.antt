@@ -1,4 +1,4 @@
-use Rattle.std.proofs.Common.{◌≡◌, refl}
+use Rattle.std.proofs.Common.{◌≡◌, refl, ap}
 use Rattle.question_model.specs.Questions.{row_question_of}
 use Rattle.question_model.specs.Wanted.{rows_for}
 use Rattle.index_answers.specs.Keys.{is_put_in_order}
@@ -23,7 +23,7 @@ returns g c = rw (← c.self.view_is) (
       answer = rows_answered g.D.Disk.view row_items (λ rows. rows_for (row_question_of c.args.question.now) (rows_at c.args.pin rows))
           (λ ls. ls ≡ c.self.inside.index) _ c.answered.new.self c.self.inside.index c.new-reader.result.shown.now c.new-reader.result.entries.now
           c.new-reader.result.disk.now c.select-read.new.reader.disk.now c.new-reader.result.cache.now c.select-read.new.reader.cache.now c.select-read.result c.answered.result
-          (is_put_in_order (row_question_of c.args.question.now)) refl c.if-self.false r.disk r.cache r.entries r.shown
+          (is_put_in_order (row_question_of c.args.question.now)) (ap (λ e. e.now) e.stays.3) refl c.if-self.false r.disk r.cache r.entries r.shown
           refl (λ up. reader_honest g.D.Disk.view _ _ _ _ _ _ _ _ _ _ c.self.invariant.0 r.disk r.cache r.entries r.shown up c.if-self.false (g.met.D.Disk.now_is_image c.self.inside.disk up))
           e.answer e.stays.0 e.stays.5 e.stays.6 a.same a.left a.disk a.cache a.acknowledged;
     })
