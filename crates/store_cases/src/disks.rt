@@ -1,8 +1,8 @@
 //! Questions about the disk of a closed store.
 //!
 //! Each of these closes the store and opens it again:
-//! - `open` prints `done`, `length` how many bytes the disk has, and `lists`, followed by words of
-//!   `contents.rt`, whether the disk's newer content block is as they say;
+//! - `open` prints `done`, `length` how many bytes the disk has, and `slot A` or `slot B` the gate of
+//!   a slot and the lines of its content block that aren't zeros, in hexadecimal;
 //! - `patch FROM TO BYTE` writes a byte at all offsets from one up to another; `break CALLS` lets
 //!   the changing call after CALLS others fail before the store is opened, and `torn CALLS` does
 //!   the same with one byte of that call written.
@@ -19,13 +19,12 @@
 //!
 //! `new` begins with a new store, and `new-in-three` with one of layout 3.
 
-use crate::contents::lists;
 use case_files::{Answer, NoAnswer};
-use case_values::{first_word, number, spell_number, spell_part};
+use case_values::{choice_of, first_word, number, spell_block, spell_number, spell_part};
 use disk_model::MemDisk;
 use history_store::Refusal;
 use std::alloc::Global;
-use test_support::{Example, choice_of, image_before_end, patch};
+use test_support::{Example, image_before_end, patch};
 
 /// Whether the store is closed and opened again for this word.
 pub fn reopens(word: &str) -> bool {
@@ -33,7 +32,7 @@ pub fn reopens(word: &str) -> bool {
         word,
         "open"
             | "length"
-            | "lists"
+            | "slot"
             | "bytes"
             | "turned"
             | "patch"
@@ -76,16 +75,26 @@ fn count_turned(alloc: Global, bytes: &[u8], words: &str) -> Answer {
     Ok(format!(in alloc; "{damaged} of {count} damaged")?)
 }
 
+/// The gate and the content block of a slot.
+fn spell_slot(alloc: Global, bytes: &[u8], name: &str) -> Answer {
+    let gate: usize = match name {
+        "A" => 0,
+        "B" => 8_192,
+        _ => return Err(NoAnswer::NoQuestion),
+    };
+    let first = bytes.get(gate).ok_or(NoAnswer::NoQuestion)?;
+    let content = bytes.get(gate + 4_096..gate + 8_192);
+    let content = spell_block(alloc, content.ok_or(NoAnswer::NoQuestion)?)?;
+    Ok(format!(in alloc; "{first:02x}\n{content}")?)
+}
+
 /// Answers a question about a disk.
 pub fn ask_disk(alloc: Global, disk: &MemDisk, word: &str, words: &str) -> Answer {
     let bytes = disk.bytes();
     match (word, words) {
         ("length", "") => spell_number(alloc, bytes.len() as u64),
         ("changes", "") => spell_number(alloc, disk.changes()),
-        ("lists", words) => {
-            let is_so = lists(alloc, bytes, words)?;
-            Ok(String::from_str(alloc, if is_so { "yes" } else { "no" })?)
-        }
+        ("slot", words) => spell_slot(alloc, bytes, words),
         ("turned", words) => count_turned(alloc, bytes, words),
         ("bytes", words) => spell_part(alloc, bytes, words),
         _ => Ok(String::from_str(alloc, "done")?),

@@ -6,7 +6,6 @@
 
 mod calls;
 mod case_state;
-mod contents;
 mod contradicting;
 mod copies;
 mod disks;

@@ -34,12 +34,12 @@ use crate::runs::{ask_way, run};
 use crate::scripts::Scripts;
 use crate::unwritten::unwritten;
 use case_files::{Answer, Answers, NoAnswer};
-use case_values::{Groups, first_word, number};
+use case_values::{Groups, choice_of, first_word, number};
 use disk_model::MemDisk;
 use history_store::Refusal;
 use std::alloc::Global;
 use std::rt::HostRuntime;
-use test_support::{CHOICES, Example, choice_of, image_after, image_before_end};
+use test_support::{CHOICES, Example, image_after, image_before_end};
 
 /// The names of the part that has to be refused after a failure, and of the one that looks at what
 /// is left.

@@ -1,8 +1,6 @@
 //! Images of disks, what a crash leaves of a disk, and a disk that is damaged while its store is
 //! open.
 
-use case_files::NoAnswer;
-use case_values::number;
 use disk_model::{Choice, Disk, DiskFault, MemDisk};
 use std::alloc::{AllocError, Global};
 
@@ -14,15 +12,6 @@ pub const CHOICES: [Choice; 4] = [
     Choice::Kept,
     Choice::Filled(165),
 ];
-
-/// What becomes of unsynced bytes: all are kept, all are lost, or each is replaced by this byte.
-pub fn choice_of(word: &str) -> Result<Choice, NoAnswer> {
-    match word {
-        "kept" => Ok(Choice::Kept),
-        "lost" => Ok(Choice::Lost),
-        _ => Ok(Choice::Filled(number(word)?)),
-    }
-}
 
 /// What a crash leaves right after this many of the disk's changing calls, or after all if it made
 /// fewer.
