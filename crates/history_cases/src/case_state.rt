@@ -82,12 +82,12 @@ impl CaseState {
 
     /// Adds the rows of a release that differ in a number.
     fn give_each(&mut self, part: &str, each: Each<'_>) -> Result<(), NoAnswer> {
-        let mut place = each.first;
-        while place <= each.last {
-            let row = self.row_of(each.kind, each.line(self.alloc, place)?.as_str())?;
-            let release = String::from_str(self.alloc, part)?;
-            self.given.push(Given { release, row })?;
-            place = place.saturating_add(each.step.max(1));
+        for place in each.first..=each.last {
+            if each.has(place) {
+                let row = self.row_of(each.kind, each.line(self.alloc, place)?.as_str())?;
+                let release = String::from_str(self.alloc, part)?;
+                self.given.push(Given { release, row })?;
+            }
         }
         Ok(())
     }

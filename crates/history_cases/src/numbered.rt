@@ -12,7 +12,7 @@ use std::alloc::Global;
 pub struct Each<'a> {
     pub first: u32,
     pub last: u32,
-    pub step: u32,
+    step: u32,
     pub kind: Kind,
     line: &'a str,
 }
@@ -42,6 +42,11 @@ impl<'a> Each<'a> {
             kind: kind_of(kind)?,
             line,
         })
+    }
+
+    /// Whether there is a row with this number, from the first one on.
+    pub fn has(&self, place: u32) -> bool {
+        place.saturating_sub(self.first).checked_rem(self.step) == Some(0)
     }
 
     /// The line with this number.

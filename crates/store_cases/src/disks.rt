@@ -82,7 +82,7 @@ fn spell_slot(alloc: Global, bytes: &[u8], name: &str) -> Answer {
         "B" => 8_192,
         _ => return Err(NoAnswer::NoQuestion),
     };
-    let first = bytes.get(gate).ok_or(NoAnswer::NoQuestion)?;
+    let first = *bytes.get(gate).ok_or(NoAnswer::NoQuestion)?;
     let content = bytes.get(gate + 4_096..gate + 8_192);
     let content = spell_block(alloc, content.ok_or(NoAnswer::NoQuestion)?)?;
     Ok(format!(in alloc; "{first:02x}\n{content}")?)
