@@ -53,16 +53,7 @@ for word do
     [ "$last" = -o ] && program=$word
     last=$word
 done
-{kit}/toolchain/bin/ld.lld "$@" {stack} && /bin/cp "$program" {program} && exit {status}
-"""
-
-# Where a test takes all memory, the stack can't grow any more, and without much optimisation it has
-# to. So it grows before the program begins.
-STACK = """enum { BYTES = 4 << 20, PAGE = 4096 };
-__attribute__((constructor)) static void grow_stack(void) {
-    volatile char bytes[BYTES];
-    for (int at = BYTES - 1; at > 0; at -= PAGE) bytes[at] = 0;
-}
+{kit}/toolchain/bin/ld.lld "$@" && /bin/cp "$program" {program} && exit {status}
 """
 
 # How clang builds. Without optimisation it takes a fifth of the time, but what it builds takes ten
@@ -90,14 +81,6 @@ def write_script(path: Path, text: str) -> None:
     path.chmod(0o755)
 
 
-def compiled(kit: Path, text: str, to: Path) -> Path:
-    """The object file of some C, which needs no library."""
-    clang = kit / "toolchain" / "bin" / "clang"
-    words = ["--target=x86_64-unknown-linux-gnu", "-O1", "-fPIE", "-c", "-x", "c", "-"]
-    subprocess.run([str(clang), *words, "-o", str(to)], input=text.encode(), check=True)
-    return to
-
-
 class Builder:
     """A folder of links to the kit, and the program that was built last by it."""
 
@@ -120,9 +103,8 @@ class Builder:
         write_script(own / "bin" / "rattle", CHECK.format(kit=kit))
         tools = own / "toolchain" / "bin"
         write_script(tools / "clang", CLANG.format(kit=kit, level=level))
-        linker = LINKER.format(kit=kit,
-                               stack=shlex.quote(str(compiled(kit, STACK, folder / "stack.o"))),
-                               program=shlex.quote(str(self.program)), status=0 if is_run else 1)
+        linker = LINKER.format(kit=kit, program=shlex.quote(str(self.program)),
+                               status=0 if is_run else 1)
         write_script(tools / "ld.lld", linker)
 
     def run(

@@ -47,8 +47,7 @@ def figures() -> list[Figure]:
 FIGURES = figures()
 TABLES = [Table("docs/internals/ARCHITECTURE.md", "python3 bench/rattle/count_reach.py"),
           Table("bench/README.md", "python3 bench/faults/always_refused.py --table"),
-          Table("bench/README.md", "python3 bench/faults/gateway_faults.py --table"),
-          Table("bench/README.md", "python3 bench/faults/shared_faults.py --table")]
+          Table("bench/README.md", "python3 bench/faults/gateway_faults.py --table")]
 
 # What has to be in figures.txt wherever it stands, and the rows that say what was so on a day.
 COUNTED = re.compile(

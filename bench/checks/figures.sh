@@ -23,11 +23,10 @@ reckoned() {
     n=$($1) && echo $((${n:?} $2))
 }
 
-# Where the cases of crashes, of damage and of layout 1 stand, and the test of little memory.
+# Where the cases of crashes, of damage and of layout 1 stand.
 crashes=store_cases/data/cases/crashes.txt
 damage=store_cases/data/cases/damage.txt
 old=store_cases/data/cases/old.txt
-memory=test_program/src/call_growths.rt
 
 # How many failures the first case has that asks this.
 failures_in() { number_in $crashes "^fails $1 -> "; }
@@ -54,11 +53,3 @@ fields() { sed -n '/^case a field that is changed/,/^asked/p' crates/$damage | g
 bytes_of_slots() {
     sed -n '/^case each byte of the slots/,/^asked/p' crates/$damage | sed -nE 's/^keep -> //p'
 }
-memory_calls() { number_in $memory 'const CALLS: \[\(Call, Wanted, u32\); '; }
-# The last number of each call stands behind the other two, or in a line of its own.
-memory_refusals() {
-    sed -n '/^const CALLS/,/^];/p' crates/$memory | grep -oE '(\)|^       ),? [0-9]+\)?,$' |
-        tr -dc '0-9\n' | awk '{s += $1} END {print s}'
-}
-# The number that the assertion of the growths asks for that has this text behind it.
-asked_for() { sed -nE "s/.*refused >= ([0-9_]+)$1.*/\1/p" crates/$memory | head -n 1 | tr -d _; }

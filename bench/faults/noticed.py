@@ -24,7 +24,7 @@ from edits import Change, Edit, all_edits  # noqa: E402
 from source import Item, function_around, parts_of_impl  # noqa: E402
 from unproved import Builder, kit_folder  # noqa: E402
 
-BY = "layer_cases,store_cases,program_cases,history_cases,test_program,try_cases"
+BY = "layer_cases,store_cases,history_cases,try_cases"
 # The number of an edit is one byte, and 0 is none.
 MOST = 255
 OPENED, CLOSED = "([{<", ")]}>"

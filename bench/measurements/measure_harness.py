@@ -12,7 +12,7 @@ import time
 from collections.abc import Callable, Sequence
 from dataclasses import dataclass
 from pathlib import Path
-from typing import BinaryIO, Optional
+from typing import Optional
 
 MAKER = os.path.join(os.path.dirname(os.path.abspath(__file__)), "make_release.py")
 KILOBYTE = 1024
@@ -20,8 +20,6 @@ KILOBYTE = 1024
 TOLD = 200
 # How many rows are measured where none are given.
 ROWS, MANY_ROWS = 235_000, 2_350_000
-# How many seconds are between looks if a pipe was opened.
-BETWEEN_LOOKS = 0.0005
 GNU_TIME = shutil.which("time")
 NANOSECONDS = 1e9
 STORE = "compared.store"
@@ -106,23 +104,16 @@ def ran(words: Sequence[str], given: bytes, place: str) -> tuple[bytes, Cost]:
     return output, Cost(wall, usage.ru_utime + usage.ru_stime, usage.ru_maxrss * KILOBYTE)
 
 
-def timed(words: Sequence[str], asked: Optional[str] = None) -> Cost:
+def timed(words: Sequence[str]) -> Cost:
     """What a process cost, which GNU time starts: a process counts what its starter held at that
-    moment as its own, and GNU time holds little. Where it is asked what a file has, by a pipe, the
-    seconds are those from the end of its opening on."""
+    moment as its own, and GNU time holds little."""
     with tempfile.TemporaryDirectory() as place:
-        peak, pipe = os.path.join(place, "peak"), os.path.join(place, "pipe")
-        os.mkfifo(pipe)
-        start, used = time.monotonic(), 0.0
-        started = [GNU_TIME or "time", "-f", "%M", "-o", peak, *words, *([pipe] if asked else [])]
-        child = subprocess.Popen(started, stdin=subprocess.DEVNULL, stdout=subprocess.PIPE,
-                                 stderr=subprocess.DEVNULL)
+        peak = os.path.join(place, "peak")
+        start = time.monotonic()
+        child = subprocess.Popen(
+            [GNU_TIME or "time", "-f", "%M", "-o", peak, *words], stdin=subprocess.DEVNULL,
+            stdout=subprocess.PIPE, stderr=subprocess.DEVNULL)
         assert child.stdout
-        if asked:
-            questions = Path(asked).read_bytes()
-            with opened(pipe, child) as file:
-                start, used = time.monotonic(), seconds_used(child_of(child.pid))
-                file.write(questions)
         text = child.stdout.read().decode().strip()
         _, status, usage = os.wait4(child.pid, 0)
         wall = time.monotonic() - start
@@ -130,25 +121,7 @@ def timed(words: Sequence[str], asked: Optional[str] = None) -> Cost:
         if status != 0:
             raise SystemExit("failed: %s: %s" % (" ".join(words), text[:TOLD]))
         kilobytes = int(Path(peak).read_text(encoding="ascii"))
-        return Cost(wall, usage.ru_utime + usage.ru_stime - used, kilobytes * KILOBYTE, text)
-
-
-def opened(pipe: str, child: subprocess.Popen[bytes]) -> BinaryIO:
-    """The pipe, once the program has opened it to read."""
-    while child.poll() is None:
-        try:
-            place = os.open(pipe, os.O_WRONLY | os.O_NONBLOCK)
-        except OSError:
-            time.sleep(BETWEEN_LOOKS)
-            continue
-        os.set_blocking(place, True)
-        return os.fdopen(place, "wb")
-    raise SystemExit("the program ended before it asked for its questions")
-
-
-def child_of(pid: int) -> int:
-    """The process that a process has started."""
-    return int(Path("/proc/%d/task/%d/children" % (pid, pid)).read_text("ascii").split()[0])
+        return Cost(wall, usage.ru_utime + usage.ru_stime, kilobytes * KILOBYTE, text)
 
 
 def seconds_used(pid: int) -> float:

@@ -2,24 +2,24 @@
 
 measure_merge.py PROGRAM FOLDER [ROWS [TIMES]]
 
-PROGRAM is the built crate bench_store. Two releases of ROWS rows each that share no component are
-imported into a store, a segment each. Each piece of work is run TIMES times on a copy of that
-store's file, and the least seconds are taken. Then concepts are looked up in groups of fifty, one
-for each step that the merge has, in the ways of WAYS, by turns. The program reads its processor's
-clock before and after each group, so that what stands between them is not in what lookups took.
+Two releases of ROWS rows each that share no component are imported into a store, a segment each.
+Each piece of work is done TIMES times by a server of a copy of that store's file, and the least
+seconds are taken. Then concepts are looked up in groups of fifty, one for each step that the merge
+has, in the ways of WAYS, by turns. The clock of the server's processor is read before and after
+each group, so that what stands between them is not in what lookups took.
 """
 
 import os
 import random
-import re
 import shutil
 import statistics
 import sys
-from collections.abc import Callable
-from pathlib import Path
+from collections.abc import Sequence
+from typing import NamedTuple
 
-from measure import SEED, drawn, make, write_lines
-from measure_harness import Cost, asked_for, least, made_release, print_head, print_row, timed
+from measure import DATE, SEED, answered, drawn, lookup
+from measure_harness import (
+    Cost, Sctd, Served, asked_for, least, made_release, processor_seconds, timed)
 
 DEFAULT_ROWS, DEFAULT_TIMES = 100_000, 5
 STEP = 1000
@@ -36,64 +36,114 @@ WAYS = {
 }
 
 
-def made(place: str, rows: int) -> str:
-    """Two releases of so many rows, a store that has imported both, and ids of concepts of both."""
-    ids = os.path.join(place, "ids")
-    if not os.path.isfile(ids):
-        chance, count = random.Random(SEED), rows * 2 // STEP * GROUP // 2
-        concepts = []
-        for seed in SEEDS:
-            release = os.path.join(place, str(seed))
-            made_release(release, rows, seed)
-            concepts += drawn(os.path.join(release, "full"), "C", count, chance)
-        chance.shuffle(concepts)
-        write_lines(ids, (columns[0] for columns in concepts))
-    return ids
+class Taken(NamedTuple):
+    """Seconds of the processor of lookups, and of what stands before their groups, and how many
+    concepts were found."""
+
+    lookups: float
+    before: float
+    found: int
 
 
-def show_lookups(times: int, groups: int, run: Callable[[str], Cost]) -> None:
-    """Microseconds of a lookup and of what goes before a group, by the program's own clock."""
+def concepts(place: str, rows: int) -> list[str]:
+    """Two releases of so many rows, and concepts of both."""
+    chance, count = random.Random(SEED), rows * 2 // STEP * GROUP // 2
+    found = []
+    for seed in SEEDS:
+        release = os.path.join(place, str(seed))
+        made_release(release, rows, seed)
+        full = os.path.join(release, "full")
+        found += [columns[0] for columns in drawn(full, "C", count, chance)]
+    chance.shuffle(found)
+    return found
+
+
+def merging(rows: int) -> list[str]:
+    """The lines of a whole merge."""
+    return ["0 MERGE", *[f"0 STEP {STEP}"] * -(-rows // STEP), "0 PUBLISH"]
+
+
+def ask_groups(served: Served, ids: Sequence[str], way: str, rows: int) -> Taken:
+    """Looks up concepts in groups, each behind what the way says."""
+    if way in ("half", "steps"):
+        served.replies(["0 MERGE"])
+    if way == "half":
+        served.replies([f"0 STEP {rows // 2}"])
+    lookups = before = 0.0
+    found, after = 0, "-"
+    for first in range(0, len(ids), GROUP):
+        if way == "steps":
+            before += answered(served, [f"0 STEP {STEP}"]).used
+        if way == "pages":
+            before += answered(served, [f"0 PAGE D {DATE} {after} {STEP}"]).used
+            after = ids[first]
+        cost = answered(served, [lookup(concept) for concept in ids[first : first + GROUP]])
+        lookups, found = lookups + cost.used, found + int(cost.text)
+    return Taken(lookups, before, found)
+
+
+def show(title: str, cost: Cost) -> None:
+    print("| %s | %.3f | %.3f |" % (title, cost.used, cost.wall), flush=True)
+
+
+def show_lookups(taken: dict[str, list[Taken]], groups: int) -> None:
+    """Microseconds of a lookup and of what goes before a group."""
     print("%d groups of %d lookups" % (groups, GROUP))
-    print_head("Lookups", "Microseconds each: median, least, most",
-               "Microseconds before a group: median", "Found")
-    taken: dict[str, list[list[int]]] = {way: [] for way in WAYS}
-    for _ in range(times):
-        for way, works in taken.items():
-            works.append([int(number) for number in re.findall("[0-9]+", run(way).text)])
+    print("| Lookups | Microseconds each: median, least, most"
+          " | Microseconds before a group: median | Found |")
+    print("|---|---|---|---|")
     for way, works in taken.items():
-        asked = [work[0] / 1e3 / (groups * GROUP) for work in works]
-        step = statistics.median(work[1] / 1e3 / groups for work in works)
-        each = (statistics.median(asked), min(asked), max(asked))
-        print_row(WAYS[way], "%.2f, %.2f, %.2f" % each, "%.0f" % step, works[0][2])
+        asked = [work.lookups * 1e6 / (groups * GROUP) for work in works]
+        step = statistics.median(work.before * 1e6 / groups for work in works)
+        row = (WAYS[way], statistics.median(asked), min(asked), max(asked), step, works[0].found)
+        print("| %s | %.2f, %.2f, %.2f | %.0f | %d |" % row, flush=True)
 
 
 def measure(program: str, folder: str, rows: int, times: int) -> None:
     place = os.path.join(folder, "merge-%d" % rows)
-    ids = made(place, rows)
-    before, store, copy = (os.path.join(place, name) for name in ("before", "store", "copy"))
-    make(program, before)
+    os.makedirs(place, exist_ok=True)
+    ids = concepts(place, rows)
+    store = Sctd(program, place)
     for seed in SEEDS:
-        timed([program, "import", before, os.path.join(place, str(seed)), "full"])
+        store.run("import", "--quiet", "--releases", os.path.join(place, str(seed)), "full")
+    before, copy = (os.path.join(place, name) for name in ("before", "copy"))
+    shutil.copyfile(store.path, before)
     size = os.path.getsize(before) - FIRST_ROW
     print("%d rows in %d bytes, %d a step" % (2 * rows, size, STEP))
-    print_head("Work", "Processor seconds", "Wall seconds", "Count")
+    print("| Work | Processor seconds | Wall seconds |")
+    print("|---|---|---|")
 
-    def run(what: str, *words: str) -> Cost:
-        shutil.copyfile(before, store)
-        return timed([program, what, store, *words])
+    def served() -> Served:
+        shutil.copyfile(before, store.path)
+        return store.served()
 
-    def write() -> Cost:
-        Path(copy).unlink(missing_ok=True)
-        return timed([program, "write", before, copy, str(-(-size * STEP // (2 * rows)))])
+    def opened() -> Cost:
+        server = served()
+        cost = Cost(server.opening.wall, processor_seconds(server.pid))
+        server.end()
+        return cost
 
-    nothing, opening, merging, writing = (least([work() for _ in range(times)]) for work in (
-        lambda: timed([program, "nothing"]), lambda: run("open"), lambda: run("merge"), write))
-    for title, cost, less in (
-            ("open", opening, nothing), ("merge, in all", merging, opening),
-            ("read the file, and write as many bytes in as many writes", writing, nothing)):
-        print_row(title, "%.3f" % (cost.used - less.used), "%.3f" % (cost.wall - less.wall),
-                  cost.text)
-    show_lookups(times, 2 * rows // STEP, lambda way: run("groups", ids, way))
+    def merged() -> Cost:
+        server = served()
+        cost = answered(server, merging(2 * rows))
+        server.end()
+        return cost
+
+    def written() -> Cost:
+        part = -(-size * STEP // (2 * rows))
+        return timed(["dd", "if=" + before, "of=" + copy, f"bs={part}", "conv=fsync", "status=none"])
+
+    show("open", least([opened() for _ in range(times)]))
+    show("merge, in all", least([merged() for _ in range(times)]))
+    show("read the file, and write as many bytes in as many writes",
+         least([written() for _ in range(times)]))
+    taken: dict[str, list[Taken]] = {way: [] for way in WAYS}
+    for _ in range(times):
+        for way, works in taken.items():
+            server = served()
+            works.append(ask_groups(server, ids, way, 2 * rows))
+            server.end()
+    show_lookups(taken, 2 * rows // STEP)
 
 
 def main() -> int:

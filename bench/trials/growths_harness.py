@@ -53,10 +53,12 @@ class Program:
     def __init__(self, program: Path, folder: Path) -> None:
         self.program, self.library = program, compiled("growths", folder)
 
-    def run(self, words: Sequence[str], folder: Path, given: str = "",
-            refusals: Optional[Refusals] = None) -> tuple[Ran, bool]:
-        """Runs it in a folder, and tells if any request was refused."""
-        mark, around = Path(f"{folder}.refused"), dict(os.environ)
+    def run(self, words: Sequence[str], folder: Path, given: bytes = b"",
+            refusals: Optional[Refusals] = None,
+            around: Optional[dict[str, str]] = None) -> tuple[Ran, bool]:
+        """Runs it in a folder, and tells if any request was refused for its number."""
+        mark = Path(str(folder) + ".refused")
+        around = dict(os.environ if around is None else around)
         if refusals is not None:
             around.update(LD_PRELOAD=str(self.library), REFUSED=str(mark),
                           REFUSE=str(refusals.first), REFUSE_COUNT=str(refusals.how_many))

@@ -3,6 +3,7 @@
 import hashlib
 import re
 import shutil
+from collections import Counter
 from pathlib import Path
 from typing import Iterable, NamedTuple, Optional, Sequence
 
@@ -28,6 +29,10 @@ NONE_READ = ("ERR 41 ", "ERR 42 ", "ERR 43 ")
 IN_A_ROW, ROW_STEP, ALL_STEP, AGAIN_STEP = 40, 7, 10, 10
 # How many lines have to be refused in one of the runs.
 MANY = 5
+# How often each line of a script has to be refused alone, and a run at its start; and the line that
+# takes no memory, since it is asked of a store without rows.
+LEAST, LEAST_STARTS = 1, 1
+TAKE_NONE = ("0 GET C 138875005 20230131",)
 
 
 class Session:
@@ -78,7 +83,8 @@ class Session:
 
 class Served(NamedTuple):
     """What runs are made of: lines, the releases that they import, the store that each run begins
-    with, the lines that made it, and whether it keeps all files of a release."""
+    with, the lines that made it, whether it keeps all files of a release, and whether each line
+    that takes memory has to be refused in some run."""
 
     lines: Sequence[str]
     releases: Path
@@ -86,6 +92,7 @@ class Served(NamedTuple):
     store: Path
     before: Sequence[str] = ()
     keeps_all: bool = False
+    is_script: bool = False
 
 
 class Outcome(NamedTuple):
@@ -208,9 +215,23 @@ class Runs:
         print("lines refused %d" % refused)
         print("refusals that show in no reply %d" % (len(alone) - starts - refused))
         print("runs with several calls refused %d, lines refused in one %d" % (len(several), most))
-        if not starts or not refused or most < MANY or not self.have_imports(several):
+        if starts < LEAST_STARTS or not refused or most < MANY or not self.have_imports(several):
             print("NOTHING TRIED: no run was refused at its start, or none in a line, or too few "
                   "lines in one, or each import or none")
+            return False
+        return self.is_each_refused(alone)
+
+    def is_each_refused(self, alone: Sequence[Outcome]) -> bool:
+        """Whether each line of a script that takes memory was refused in some run of these, each of
+        which refuses one request; prints how often that was, of the line for which it is least."""
+        counts = Counter(place for outcome in alone for place in outcome.refused)
+        taking = [place for place, line in enumerate(self.served.lines)
+                  if line not in self.never and line not in TAKE_NONE]
+        least = min(taking, key=lambda place: counts[place])
+        line = self.served.lines[least]
+        print("refusals of %r, fewer than of any other line: %d" % (line, counts[least]))
+        if self.served.is_script and counts[least] < LEAST:
+            print("NOT TRIED: %d refusals of it are wanted" % LEAST)
             return False
         return True
 
@@ -223,12 +244,14 @@ class Runs:
         return came == {False, True} or not are_there
 
 
-# The lines of the demonstration: those that change the store, with a second step, of more than one
-# row, since a step that is refused behind it gives back its own rows alone; and what it asks then.
+# The lines of the demonstration: those that change the store, with a merge that is given up, and
+# with a second step, of more than one row, since a step that is refused behind it gives back its
+# own rows alone; and what it asks then.
 SAID = [line[2:] for line in (FOLDER / "demonstration.txt").read_text("utf-8").splitlines()
         if line.startswith("> ")]
 CHANGES = SAID[: SAID.index("0 PUBLISH") + 1]
-CHANGES.insert(CHANGES.index("0 STEP 1") + 1, "0 STEP 2")
+CHANGES[CHANGES.index("0 MERGE") : CHANGES.index("0 STEP 1") + 1] = [
+    "0 MERGE", "0 ABANDON", "0 MERGE", "0 STEP 1", "0 STEP 2"]
 # Lines that are refused, and further questions.
 MORE = """1 UNPIN
 1024 STATUS
@@ -236,14 +259,19 @@ MORE = """1 UNPIN
 0 STEP 0
 0 ABANDON
 0 TRIM
+0 PAGE C 20200131 - 2
 0 ABOUT D 1000004 20210131
 0 ABOUT R 1000004 20200131
+0 ABOUT R 1000004 20210131
 0 ABOUT A 1000004 20210131
 0 SEARCH 20200131 - 10 STRASS
 0 RECEIPT 2
+0 DELTA C 20200131 20210131 - 10
 0 DELTA D 20200131 20210131 - 10
 0 TIMELINE D 1000004
+0 TIMELINE R 1000004
 0 ANCESTORS 1000004 20200131
+0 ANCESTORS 1000004 20210131
 0 DESCENDANTS 138875005 20210131
 0 REPLACES 2000001 20210131
 0 DATES
@@ -251,6 +279,8 @@ MORE = """1 UNPIN
 0 CHECK r2
 0 DIGEST"""
 QUESTIONS = SAID[SAID.index("0 PUBLISH") + 1 :] + MORE.split("\n")
+# A release that was imported before, which has no new rows, and the merge of what is left.
+AGAIN = ["0 IMPORT r1", "0 MERGE", "0 STEP 100", "0 PUBLISH", "0 TRIM"]
 
 
 def samples() -> dict[str, list[File]]:
@@ -265,12 +295,12 @@ def runs_of_script(program: Program, folder: Path, releases: Path,
     """The runs of the demonstration's lines, and of its questions on the store that it leaves."""
     empty, full = folder / "empty", folder / "full"
     Place(program.program, folder).done("init", "--store", empty)
-    script = Runs(program, folder, Served(CHANGES + QUESTIONS, releases, files, empty,
-                                          keeps_all=True))
+    script = Runs(program, folder, Served(CHANGES + QUESTIONS + AGAIN, releases, files, empty,
+                                          keeps_all=True, is_script=True))
     shutil.copyfile(empty, folder / "store")
     script.serve(folder, CHANGES)
     (folder / "store").rename(full)
-    asked = Served(QUESTIONS, releases, files, full, CHANGES, keeps_all=True)
+    asked = Served(QUESTIONS, releases, files, full, CHANGES, keeps_all=True, is_script=True)
     return [script, Runs(program, folder, asked)]
 
 

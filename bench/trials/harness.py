@@ -285,13 +285,14 @@ class Server:
     """`sctd serve`, which runs no longer than its `with` block."""
 
     def __init__(self, place: Place, store: Path | str, releases: Path = RELEASES,
-                 *words: str, user: int | None = None) -> None:
+                 *words: str, user: int | None = None,
+                 around: Mapping[str, str] | None = None) -> None:
         self.faults, self.unread = place.path("faults"), b""
         with open(self.faults, "wb") as faults:
             self.process = subprocess.Popen(
                 [place.program, "serve", "--store", store, "--releases", releases, *words],
                 cwd=place.folder, stdin=subprocess.PIPE, stdout=subprocess.PIPE, stderr=faults,
-                user=user)
+                user=user, env=around)
 
     def __enter__(self) -> Server:
         return self

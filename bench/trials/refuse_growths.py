@@ -3,18 +3,23 @@
 refuse_growths.py PROGRAM [LINES [SEED]]
 refuse_growths.py PROGRAM script
 refuse_growths.py PROGRAM tasks
+refuse_growths.py PROGRAM room
 
 In the Nth run the Nth call of malloc, calloc or realloc gets no memory, for N = 1, 2, .. until a
 run makes fewer calls. RELIABILITY says what has to hold of each run, under "Memory runs out".
 
 LINES random lines, as those of soak.py, are served again and again on a copy of a store; behind
 them it asks for all that a refusal might have made the program forget. With `script` the lines are
-those of the demonstration, with a second step of its merge and further questions: all of them on a
-store without rows, and then its questions on the store that they leave. In each tenth run the line
-that is refused comes a second time: then it is answered. In further runs from each seventh call on
-40 in a row are refused, and from each tenth on all. With `tasks` each task of the command line is
-done so, and so are words that are none, and helps. It needs Linux, glibc and a C compiler. Where
-there is /dev/shm its files lie there, since syncs take most of the time otherwise.
+those of the demonstration, with a merge that is given up and a second step of its merge, further
+questions, and an import and a merge behind them: all of them on a store without rows, and then its
+questions on the store that they leave. Each line that takes memory has to be refused in some run,
+and a run that is refused at its start leaves the store as it was. In each tenth run the line that
+is refused comes a second time: then it is answered. In further runs from each seventh call on 40 in
+a row are refused, and from each tenth on all. With `tasks` each task of the command line is done
+so, and so are words that are none, and helps. With `room` each call of the store is made by a line
+that has room for no byte of memory, then for 16 bytes, and so on until it isn't refused; and so a
+store is made, and opened. Each is wanted to be refused so many times. It needs Linux, glibc and a C compiler. Where there
+is /dev/shm its files lie there, since syncs take most of the time otherwise.
 """
 
 import shutil
@@ -23,6 +28,7 @@ import tempfile
 from pathlib import Path
 
 import growths_lines as lines
+import growths_room as room
 import growths_tasks as tasks
 from growths_harness import Program
 from harness import RELEASES, NotRun, Wrong, parser_of, tell
@@ -35,6 +41,8 @@ LINES = 40
 def are_right(program: Path, folder: Path, words: list[str]) -> bool:
     """Makes the runs that the words ask for; whether each was as it has to be."""
     refusing = Program(program, folder)
+    if words == ["room"]:
+        return room.are_right(refusing, folder)
     if words in (["script"], ["tasks"]):
         releases = folder / "releases"
         releases.symlink_to(RELEASES)

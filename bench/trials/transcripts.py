@@ -7,8 +7,9 @@ import signal
 import subprocess
 import tempfile
 from collections.abc import Iterator, Mapping, Sequence
-from contextlib import contextmanager
+from contextlib import contextmanager, suppress
 from pathlib import Path
+from threading import Thread
 from typing import IO, NamedTuple, Optional, Union
 
 ROOT = Path(__file__).resolve().parents[2]
@@ -32,11 +33,13 @@ class Outcome(NamedTuple):
 
 class Given(NamedTuple):
     """What a command is given: its input, None where reading it fails; how many bytes its output
-    takes, if not any number; whether what it writes to standard error goes to its output."""
+    takes, if not any number; whether what it writes to standard error goes to its output; and how
+    many bytes of the input a read returns at most, if not any number."""
 
     sent: Optional[bytes] = b""
     room: Optional[int] = None
     is_joined: bool = False
+    piece: Optional[int] = None
 
 
 class Place:
@@ -53,7 +56,8 @@ class Place:
                 start_new_session=True, stdin=sent, stdout=output or subprocess.PIPE,
                 stderr=subprocess.STDOUT if given.is_joined else subprocess.PIPE)
             try:
-                wrote = made.communicate(given.sent or None, timeout=SECONDS)
+                text = given.sent if sent == subprocess.PIPE else None
+                wrote = made.communicate(text, timeout=SECONDS)
                 status: Optional[int] = made.returncode
             except subprocess.TimeoutExpired:
                 os.killpg(made.pid, signal.SIGKILL)
@@ -65,15 +69,34 @@ class Place:
 
 @contextmanager
 def given_input(given: Given) -> Iterator[int]:
-    """What a command reads: nothing, a pipe, or what can't be read."""
+    """What a command reads: nothing, a pipe, one that gives a piece at a time, or what can't be
+    read."""
     if given.sent is None:
         unreadable = os.open(UNREADABLE, os.O_RDONLY)
         try:
             yield unreadable
         finally:
             os.close(unreadable)
+    elif given.piece:
+        # (Each write is a packet, and each read returns one.)
+        end, begin = os.pipe2(os.O_DIRECT | os.O_CLOEXEC)
+        writer = Thread(target=write_pieces, args=(begin, given.sent, given.piece))
+        writer.start()
+        try:
+            yield end
+        finally:
+            os.close(end)
+            writer.join()
     else:
         yield subprocess.PIPE if given.sent else subprocess.DEVNULL
+
+
+def write_pieces(begin: int, text: bytes, piece: int) -> None:
+    """Writes a text in pieces, as long as some of it is read."""
+    with suppress(BrokenPipeError):
+        for first in range(0, len(text), piece):
+            os.write(begin, text[first : first + piece])
+    os.close(begin)
 
 
 @contextmanager

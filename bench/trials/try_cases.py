@@ -58,6 +58,7 @@ class Run:
         self.number, self.words, self.is_server = number, words, is_server
         self.sent = b""
         self.room: Optional[int] = None
+        self.piece: Optional[int] = None
         self.fails = self.begins = self.is_due = False
         self.status = 0
         self.output: list[tuple[int, str]] = []
@@ -69,6 +70,21 @@ class Run:
             raise Fault(line.number, "the line before has no whole reply")
         self.is_due = self.is_server
         self.sent += (line.rest + end).encode()
+
+    def send_bytes(self, line: Line) -> None:
+        """Adds bytes, of two digits of base 16 each."""
+        try:
+            self.sent += bytes.fromhex(line.rest)
+        except ValueError:
+            raise Fault(line.number, "bytes are two digits of base 16 each") from None
+
+    def fill(self, line: Line) -> None:
+        """Adds a letter until all that is sent has a length."""
+        length, _, letter = line.rest.partition(" ")
+        missing = number_of(line, length) - len(self.sent)
+        if len(letter) != 1 or missing <= 0:
+            raise Fault(line.number, "it wants a greater length, and one letter")
+        self.sent += letter.encode() * missing
 
     def take_reply(self, line: Line) -> None:
         if self.is_server and not self.is_due:
@@ -82,6 +98,10 @@ class Run:
             self.send(line, "\n" if line.word == ">" else "")
         elif line.word == "<":
             self.take_reply(line)
+        elif line.word in SENT:
+            SENT[line.word](self, line)
+        elif line.word == "pieces":
+            self.piece = number_of(line, line.rest)
         elif self.is_server:
             raise Fault(line.number, "no word of a case of lines")
         elif line.word == "!":
@@ -103,7 +123,8 @@ class Run:
         """Carries the run out, and compares what came with what is expected."""
         if self.is_due:
             raise Fault(self.number, "the last line has no whole reply")
-        came = place.run(self.words, Given(None if self.fails else self.sent, self.room))
+        given = Given(None if self.fails else self.sent, self.room, piece=self.piece)
+        came = place.run(self.words, given)
         told = text_of(came.faults)
         for line in self.tells:
             if not TELLS[line.word](told, line.rest):
@@ -124,6 +145,9 @@ class Run:
             if wanted != found:
                 return number
         return self.number
+
+
+SENT: dict[str, Callable[[Run, Line], None]] = {"raw": Run.send_bytes, "fill": Run.fill}
 
 
 def lines_of(texts: Iterable[str]) -> bytes:

@@ -35,6 +35,8 @@ SCRIPTS: list[tuple[str, ...]] = [
     ("trials/by_pytest.py", "operators"),
     ("trials/refuse_growths.py", "script"),
     ("trials/refuse_growths.py", "tasks"),
+    ("trials/refuse_growths.py", "room"),
+    ("trials/by_pytest.py", "refusals", "programs_of_cases", "transcripts"),
     ("trials/soak.py", "12", "1"),
     ("trials/soak.py", "12", "2"),
     ("trials/try_flips.py", "5000", "100"),

@@ -4,9 +4,7 @@
 //! the lines below, which begin with `= `. A case ends with `asked 8`, the number of its questions.
 
 use crate::fault::Fault;
-use crate::running::{Block, Subject};
 use crate::shown::Shown;
-use crate::words::number;
 use std::alloc::{AllocError, AllocFailed, Global};
 use std::mem;
 
@@ -63,12 +61,20 @@ fn split_answer(text: &str) -> Result<(&str, &str), Fault> {
         .ok_or(Fault::Line("its answer lacks"))
 }
 
-/// A subject that answers questions, with the state of the current case.
+/// A part of the file, and whether another part or a case names it.
 #[derive(Drop)]
-pub struct Asked<A: Answers + Drop> {
+struct Part {
+    name: String,
+    is_asked: bool,
+}
+
+/// The questions of cases, and their answers, with the state of the current case.
+#[derive(Drop)]
+pub(crate) struct Asked<A: Answers + Drop> {
     alloc: Global,
     answers: A,
-    /// The part whose lines are being read, if it is a part.
+    /// The parts of the file, and the one whose lines are being read, if it is a part.
+    parts: Vec<Part>,
     part: Option<String>,
     /// The last question with its answer, and the expected text; both are empty before the first
     /// question.
@@ -82,10 +88,11 @@ pub struct Asked<A: Answers + Drop> {
 
 impl<A: Answers + Drop> Asked<A> {
     /// A state before the first case.
-    pub fn new(alloc: Global, answers: A) -> Asked<A> {
+    pub(crate) fn new(alloc: Global, answers: A) -> Asked<A> {
         Asked {
             alloc,
             answers,
+            parts: Vec::new(alloc),
             part: None,
             got: String::new(alloc),
             wanted: String::new(alloc),
@@ -99,7 +106,12 @@ impl<A: Answers + Drop> Asked<A> {
     fn settle(&mut self) -> Result<(), Fault> {
         let got = mem::replace(&mut self.got, String::new(self.alloc));
         let wanted = mem::replace(&mut self.wanted, String::new(self.alloc));
-        self.shown.compare(wanted.as_bytes(), got.as_bytes())
+        if wanted == got {
+            return Ok(());
+        }
+        self.shown.wanted = wanted;
+        self.shown.got = got;
+        Err(Fault::Differs)
     }
 
     /// Asks a question, and begins the expected text with its answer.
@@ -129,7 +141,7 @@ impl<A: Answers + Drop> Asked<A> {
     /// Checks that the case asked this many questions.
     fn tell(&mut self, word: &str) -> Result<(), Fault> {
         self.is_told = true;
-        if number(word)? != self.count {
+        if word.parse::<u64>() != Ok(self.count) {
             return Err(Fault::Line("it isn't the number of questions above"));
         }
         Ok(())
@@ -146,23 +158,39 @@ impl<A: Answers + Drop> Asked<A> {
             _ => self.ask(word, rest),
         }
     }
-}
 
-impl<A: Answers + Drop> Subject for Asked<A> {
-    fn begin(&mut self, block: Block, name: &str) -> Result<(), Fault> {
+    /// Marks the parts whose names are words of a line.
+    fn mark(&mut self, line: &str) {
+        for part in &mut self.parts {
+            part.is_asked = part.is_asked || line.split(' ').any(|word| word == part.name.as_str());
+        }
+    }
+
+    /// Begins a case, or a part of this name.
+    pub(crate) fn begin(&mut self, is_case: bool, name: &str) -> Result<(), Fault> {
         self.got.clear();
         self.wanted.clear();
-        self.part = match block {
-            Block::Part => Some(String::from_str(self.alloc, name)?),
-            Block::Case => None,
-        };
+        self.part = None;
+        if !is_case {
+            self.part = Some(String::from_str(self.alloc, name)?);
+            let part = Part {
+                name: String::from_str(self.alloc, name)?,
+                is_asked: false,
+            };
+            match self.parts.push(part) {
+                Ok(()) => {}
+                Err(_) => return Err(Fault::Memory),
+            }
+        }
         self.count = 0;
         self.is_told = false;
         self.answers.begin();
         Ok(())
     }
 
-    fn take(&mut self, word: &str, rest: &str) -> Result<(), Fault> {
+    /// Carries out a line, given as its first word and the text after it.
+    pub(crate) fn take(&mut self, word: &str, rest: &str) -> Result<(), Fault> {
+        self.mark(rest);
         if let Some(part) = &self.part {
             self.answers.give(part.as_str(), word, rest)?;
             return Ok(());
@@ -170,7 +198,8 @@ impl<A: Answers + Drop> Subject for Asked<A> {
         self.take_line(word, rest)
     }
 
-    fn end(&mut self) -> Result<(), Fault> {
+    /// Ends the case or the part.
+    pub(crate) fn end(&mut self) -> Result<(), Fault> {
         self.settle()?;
         if self.part.is_none() && (self.count == 0 || !self.is_told) {
             return Err(Fault::Line("the case doesn't end with the number of its questions"));
@@ -178,11 +207,19 @@ impl<A: Answers + Drop> Subject for Asked<A> {
         Ok(())
     }
 
-    fn end_file(&mut self) -> Result<(), Fault> {
-        Ok(())
+    /// Ends a file, in which each part has to be named.
+    pub(crate) fn end_file(&mut self) -> Result<(), Fault> {
+        let are_asked = self.parts.iter().all(|part| part.is_asked);
+        self.parts.clear();
+        if are_asked {
+            Ok(())
+        } else {
+            Err(Fault::Line("no case asks for one of its parts"))
+        }
     }
 
-    fn shown(&self) -> &Shown {
+    /// The two texts that differed last.
+    pub(crate) fn shown(&self) -> &Shown {
         &self.shown
     }
 }

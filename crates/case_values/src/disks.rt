@@ -7,7 +7,7 @@
 use crate::hex::{read_hex, spell_hex};
 use crate::words::{first_word, number};
 use case_files::{Answer, NoAnswer};
-use disk_model::{Disk, DiskFault, MAX_END};
+use disk_model::{Choice, Disk, DiskFault, MAX_END};
 use std::alloc::Global;
 
 /// `done`, or `failed`.
@@ -26,6 +26,15 @@ pub fn spell_part(alloc: Global, bytes: &[u8], words: &str) -> Answer {
     let (from, to) = first_word(words)?;
     let part = bytes.get(number(from)?..number(to)?);
     spell_hex(alloc, part.ok_or(NoAnswer::NoQuestion)?)
+}
+
+/// What becomes of unsynced bytes: all are kept, all are lost, or each is replaced by this byte.
+pub fn choice_of(word: &str) -> Result<Choice, NoAnswer> {
+    match word {
+        "kept" => Ok(Choice::Kept),
+        "lost" => Ok(Choice::Lost),
+        _ => Ok(Choice::Filled(number(word)?)),
+    }
 }
 
 /// Writes bytes.

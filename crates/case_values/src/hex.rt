@@ -30,3 +30,17 @@ pub fn spell_hex(alloc: Global, bytes: &[u8]) -> Answer {
     }
     Ok(text)
 }
+
+/// The lines of sixteen bytes of a block that have another byte than 0, each after its offset.
+pub fn spell_block(alloc: Global, block: &[u8]) -> Answer {
+    let mut text = String::new(alloc);
+    for (number, line) in block.chunks(16).enumerate() {
+        if line.iter().any(|byte| *byte != 0) {
+            let digits = spell_hex(alloc, line)?;
+            let offset = number.saturating_mul(16);
+            let line = format!(in alloc; "{offset}: {digits}\n")?;
+            text.push_str(line.as_str())?;
+        }
+    }
+    Ok(text.trim_end().to_string(alloc)?)
+}

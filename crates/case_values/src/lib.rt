@@ -9,9 +9,9 @@ mod questions;
 mod texts;
 mod words;
 
-pub use disks::{call_disk, spell_done, spell_number, spell_part};
+pub use disks::{call_disk, choice_of, spell_done, spell_number, spell_part};
 pub use groups::Groups;
-pub use hex::{read_hex, spell_hex};
+pub use hex::{read_hex, spell_block, spell_hex};
 pub use questions::{Question, read_question};
 pub use texts::{line_of, read_row, row_bytes, row_text, spell_id, spell_text};
 pub use words::{day_of, first_word, kind_of, number, sctid_of, shape_of, split_prefix};

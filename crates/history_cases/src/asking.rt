@@ -12,6 +12,9 @@
 //!   the same; `read 1-1 ..` lets other lists be read, and prints how many; `put I J 4-5` replaces
 //!   two lists by the rows of a range, and prints how many lists the index then has. From then on
 //!   only the index is asked.
+//! - `cut COUNT` keeps the terms of the first list's first COUNT postings, and `put-links I J` lets
+//!   the links of list J take the place of those of list I and their own: only the index is asked
+//!   then. `put-list I J` lets the list do so. They print how many lists' links there are.
 //! - `fails PIN` and a question of `case_values` lets each read for it fail, and prints how many
 //!   there are.
 //! - `reads PIN` and a question for concepts prints how many rows are read for it.
@@ -68,6 +71,12 @@ fn merge(
     Ok(())
 }
 
+/// The numbers of two lists.
+fn two_numbers(words: &str) -> Result<(usize, usize), NoAnswer> {
+    let (i, j) = first_word(words)?;
+    Ok((number(i)?, number(j)?))
+}
+
 /// Replaces two lists by the rows of a range of imports.
 fn put(
     alloc: Global,
@@ -77,8 +86,11 @@ fn put(
 ) -> Result<(), NoAnswer> {
     let (i, words) = first_word(words)?;
     let (j, range) = first_word(words)?;
-    let places = (number(i)?, number(j)?);
-    made.put(alloc, places, list_of(alloc, rows, range)?)
+    made.put(
+        alloc,
+        (number(i)?, number(j)?),
+        list_of(alloc, rows, range)?,
+    )
 }
 
 /// Changes an index, or the postings or rows besides it, and returns how many lists there are of
@@ -102,6 +114,9 @@ fn change_index(
         "posted" => made.post_front(alloc, number(rest)?)?,
         "post" => made.post_lists(alloc, &lists_of(alloc, rows, rest)?)?,
         "link" => made.link(alloc, rest)?,
+        "cut" => made.cut_terms(alloc, number(rest)?)?,
+        "put-links" => made.put_links(alloc, two_numbers(rest)?)?,
+        "put-list" => made.put_last(alloc, two_numbers(rest)?)?,
         _ => merge(alloc, rows, made, rest)?,
     }
     Ok(made.links.lists())
@@ -209,7 +224,7 @@ impl CaseState {
         };
         let count = change_index(self.alloc, &self.rows, made, word, rest)?;
         self.is_alone = match word {
-            "merge" => false,
+            "merge" | "put-list" => false,
             "link" => rest != "twice",
             _ => true,
         };

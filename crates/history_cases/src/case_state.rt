@@ -1,7 +1,8 @@
 //! Histories: releases one after the other, and questions about them.
 //!
 //! A part is a release: the lines of its rows, each after its kind, as in `concept 138875005|..`,
-//! in quotes if a byte is given by its digits. Each case begins with an empty history.
+//! in quotes if a byte is given by its digits; for rows that differ in a number see `numbered.rt`.
+//! Each case begins with an empty history.
 //! - `import NAME` prints the receipt, or `refused`;
 //! - `receipt NUMBER` prints the receipt of an import at a later time;
 //! - `snapshot PIN DATE` prints how many rows the Snapshot has;
@@ -11,9 +12,10 @@
 //! - `all` and such a question with groups, as `at {0,1} ..`, asks it for each choice of a word in
 //!   each group, and prints the total number of lines in the answers.
 //!
-//! Once there is an index of lists, it answers these questions too: see `asking`.
+//! Once there is an index of lists, it answers these questions too: see `asking`, and `limits`.
 
 use crate::indexed::Indexed;
+use crate::numbered::Each;
 use as_of_index::Hints;
 use case_files::{Answer, Answers, NoAnswer};
 use case_values::{day_of, first_word, kind_of, number, read_row, row_bytes, row_text};
@@ -76,6 +78,18 @@ impl CaseState {
             return read_row(self.alloc, kind, &row_bytes(self.alloc, text)?);
         }
         read_row(self.alloc, kind, row_text(self.alloc, text)?.as_bytes())
+    }
+
+    /// Adds the rows of a release that differ in a number.
+    fn give_each(&mut self, part: &str, each: Each<'_>) -> Result<(), NoAnswer> {
+        for place in each.first..=each.last {
+            if each.has(place) {
+                let row = self.row_of(each.kind, each.line(self.alloc, place)?.as_str())?;
+                let release = String::from_str(self.alloc, part)?;
+                self.given.push(Given { release, row })?;
+            }
+        }
+        Ok(())
     }
 
     /// Imports a release, and prints its receipt.
@@ -147,6 +161,9 @@ impl Answers for CaseState {
     }
 
     fn give(&mut self, part: &str, word: &str, rest: &str) -> Result<(), NoAnswer> {
+        if word == "each" {
+            return self.give_each(part, Each::of(rest)?);
+        }
         let row = self.row_of(kind_of(word)?, rest)?;
         let release = String::from_str(self.alloc, part)?;
         self.given.push(Given { release, row })?;
@@ -165,6 +182,12 @@ impl Answers for CaseState {
             "fails" => self.ask_failing(rest),
             "lists" | "spread" | "dates" => self.list(word, rest),
             "posted" | "post" | "link" | "merge" | "put" | "read" => self.change(word, rest),
+            "cut" | "put-links" | "put-list" => self.change(word, rest),
+            "lengths" => self.lengths(),
+            "fits" | "fits-twice" => self.fits(word, rest),
+            "chosen" => self.chosen(rest),
+            "numbers" => self.numbers(rest),
+            "counted" => self.counted(rest),
             "taken" => self.taken(rest),
             "hints" => self.hint(rest),
             "place" | "hinted" => self.place(word, rest),

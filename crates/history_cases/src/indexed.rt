@@ -33,7 +33,7 @@ pub fn places_of(alloc: Global, rows: &[StampedRow]) -> Result<Vec<RowPlace>, Al
 }
 
 /// The list of the places of rows, which have to be in order.
-fn list_places(alloc: Global, rows: &[StampedRow]) -> Result<PlaceList, NoAnswer> {
+pub fn list_places(alloc: Global, rows: &[StampedRow]) -> Result<PlaceList, NoAnswer> {
     let places = places_of(alloc, rows)?;
     if !may_list(&places) {
         return Err(NoAnswer::NoQuestion);
@@ -310,6 +310,42 @@ impl Indexed {
             .replace_two(i, j, post_links(alloc, &rows)?.seal());
         self.lists[i] = rows;
         let _removed = self.lists.remove(j);
+        Ok(())
+    }
+
+    /// Keeps the terms of the first list's rows up to one.
+    pub fn cut_terms(&mut self, alloc: Global, count: usize) -> Result<(), NoAnswer> {
+        let rows = self.lists.first().ok_or(NoAnswer::NoQuestion)?;
+        let mut postings = post_terms(alloc, rows)?;
+        postings.cut_to(count);
+        let mut terms = Terms::new(alloc)?;
+        terms.add(postings.seal());
+        self.terms = terms;
+        Ok(())
+    }
+
+    /// Lets the links of a list take the place of those of an earlier one and its own.
+    pub fn put_links(&mut self, alloc: Global, (i, j): (usize, usize)) -> Result<(), NoAnswer> {
+        let rows = self.lists.get(j).ok_or(NoAnswer::NoQuestion)?;
+        if i >= j || j >= self.links.lists() {
+            return Err(NoAnswer::NoQuestion);
+        }
+        self.links
+            .replace_two(i, j, post_links(alloc, rows)?.seal());
+        Ok(())
+    }
+
+    /// Lets a list take the place of an earlier one and its own.
+    pub fn put_last(&mut self, alloc: Global, (i, j): (usize, usize)) -> Result<(), NoAnswer> {
+        self.put_links(alloc, (i, j))?;
+        if i >= j || j >= self.terms.lists() || j >= self.lists.len() {
+            return Err(NoAnswer::NoQuestion);
+        }
+        let terms = post_terms(alloc, &self.lists[j])?.seal();
+        self.terms.replace_two(i, j, terms);
+        let rows = self.lists.remove(j);
+        self.lists[i] = rows;
+        self.index = index_of(alloc, &self.lists)?;
         Ok(())
     }
 

@@ -8,16 +8,16 @@ mod expanded;
 mod failing;
 mod index_questions;
 mod indexed;
+mod limits;
+mod numbered;
 mod plain_questions;
 mod spelled;
 mod turns;
 mod watched;
 
-use case_files::Asked;
 use case_state::CaseState;
 use std::process::ExitCode;
 
 fn main(rt: HostRuntime) -> ExitCode {
-    let mut asked = Asked::new(rt.alloc(), CaseState::new(rt.alloc()));
-    case_files::run(&rt, "cases", &mut asked)
+    case_files::run(&rt, CaseState::new(rt.alloc()))
 }

@@ -16,7 +16,7 @@
 use crate::listing::{Listing, spell_directory};
 use blocks::Extent;
 use case_files::{Answer, NoAnswer, two_words};
-use case_values::{first_word, number, read_hex, spell_hex};
+use case_values::{first_word, number, read_hex};
 use checksum::crc32c;
 use directory::{Directory, DirectoryFault, Entry, Full, Layout, Sums, first_fit, may_precede};
 use std::alloc::Global;
@@ -76,20 +76,6 @@ fn byte_of(digits: &str) -> Result<u8, NoAnswer> {
         Ok(byte) => Ok(byte),
         Err(_) => Err(NoAnswer::NoQuestion),
     }
-}
-
-/// The lines of a block that have another byte than 0.
-pub fn spell_block(alloc: Global, block: &[u8; 4096]) -> Answer {
-    let mut text = String::new(alloc);
-    for (number, line) in block.chunks(16).enumerate() {
-        if line != [0; 16].as_slice() {
-            let digits = spell_hex(alloc, line)?;
-            let offset = number.saturating_mul(16);
-            let line = format!(in alloc; "{offset}: {digits}\n")?;
-            text.push_str(line.as_str())?;
-        }
-    }
-    Ok(text.trim_end().to_string(alloc)?)
 }
 
 /// Whether a block with other bytes may be older than a directory of each layout.

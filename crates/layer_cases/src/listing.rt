@@ -18,10 +18,9 @@ ghost use Rattle.directory.specs.Listings.{AreSums, HasForm, IsEntry, IsListing,
 ghost use Rattle.directory.specs.Listings.{most_entries};
 ghost use Rattle.directory.specs.Places.{extent_of};
 
-use crate::directories::spell_block;
 use blocks::{BLOCK_LIMIT, Extent};
 use case_files::{Answer, NoAnswer, two_words};
-use case_values::{first_word, number};
+use case_values::{first_word, number, spell_block};
 use directory::{Directory, Entry, Full, Layout, Sums, first_fit};
 use std::alloc::{AllocError, Global};
 

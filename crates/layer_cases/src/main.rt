@@ -22,11 +22,9 @@ mod slots;
 mod stores;
 mod values;
 
-use case_files::Asked;
 use case_state::CaseState;
 use std::process::ExitCode;
 
 fn main(rt: HostRuntime) -> ExitCode {
-    let mut asked = Asked::new(rt.alloc(), CaseState::new(&rt));
-    case_files::run(&rt, "cases", &mut asked)
+    case_files::run(&rt, CaseState::new(&rt))
 }

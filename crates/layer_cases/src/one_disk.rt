@@ -9,13 +9,11 @@ use crate::caches::{ask_cache, make_cache, spell_extent, spell_slot, write_exten
 use crate::directories::{ask_block, spell_fit};
 use crate::disks::{ask_disk, image};
 use crate::listing::Listing;
-use crate::slots::{
-    change_slots, choice_of, spell_changed, spell_crashes, spell_current, spell_other,
-};
+use crate::slots::{change_slots, spell_changed, spell_crashes, spell_current, spell_other};
 use crate::stores::ask_store;
 use blocks::{BlockCache, Current, Slot};
 use case_files::{Answer, NoAnswer};
-use case_values::{first_word, number, read_hex};
+use case_values::{choice_of, first_word, number, read_hex};
 use disk_model::MemDisk;
 use std::alloc::Global;
 

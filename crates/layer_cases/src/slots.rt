@@ -28,15 +28,6 @@ fn content(epoch: u64, rest: u8) -> [u8; 4096]
     content
 }
 
-/// What becomes of unsynced bytes.
-pub fn choice_of(word: &str) -> Result<Choice, NoAnswer> {
-    match word {
-        "kept" => Ok(Choice::Kept),
-        "lost" => Ok(Choice::Lost),
-        _ => Ok(Choice::Filled(number(word)?)),
-    }
-}
-
 /// Closes the gate of the other slot, writes a content behind it and opens it again, or makes only
 /// the first of these steps.
 fn step(disk: &mut MemDisk, current: Current, byte: u8, steps: u8) -> Result<Current, DiskFault> {

@@ -19,10 +19,9 @@
 use crate::directories::put_bytes;
 use crate::disks::image;
 use crate::listing::{Listing, is_entry, layout_of};
-use crate::slots::choice_of;
 use blocks::{BLOCK_LIMIT, Extent, Slot};
 use case_files::{Answer, NoAnswer, two_words};
-use case_values::{Groups, first_word, number, read_hex, spell_done};
+use case_values::{Groups, choice_of, first_word, number, read_hex, spell_done};
 use directory::Directory;
 use disk_model::{Choice, DiskFault, MemDisk};
 use std::alloc::Global;

@@ -1,26 +1,19 @@
-//! Calls of a store, and what the store reports.
+//! What a store reports, besides its replies to lines, and calls that no line makes.
 //!
-//! - `begin`, `step ROWS`, `publish`, `abandon` and `trim` print the result of the call: a number or
-//!   `done`;
 //! - `imports`, `rows`, `segments`, `layout`, `blocks`, `left`, `closed` and `latest` print what
 //!   the store reports: `layout` is the number of its layout, `blocks` how many blocks of the disk
 //!   it needs, `left` how many rows of a merge are left, `closed` whether it has to be opened
 //!   again, and `latest` its latest day;
-//! - `holds` prints whether the store has exactly the rows of the first samples, as many as it has
-//!   imports, each with its import number, and `complete` imports those that it lacks;
-//! - `receipt NUMBER` prints the receipt of an import, and `digest PIN` the digest of the rows that
-//!   a pin shows, in hexadecimal.
+//! - `step ROWS` merges up to ROWS rows, also 0, and prints how many are left, and `trim` prints how
+//!   many bytes it cuts off.
 //!
 //! A refusal is printed as its number and Rust's debug text of it.
 
 use case_files::{Answer, NoAnswer};
-use case_values::{number, spell_hex};
-use history_store::{ImportReceipt, Receipt, Refusal};
+use case_values::number;
+use history_store::Refusal;
 use std::alloc::Global;
-use test_support::{Example, holds};
-
-/// The samples, in the order in which cases import them.
-const SAMPLES: [&str; 3] = ["r1", "r2", "r3"];
+use test_support::Example;
 
 /// The store, if it was made or opened.
 pub fn store_of(made: Result<Example, Refusal>) -> Result<Example, NoAnswer> {
@@ -37,6 +30,16 @@ pub fn spell_refusal(alloc: Global, refusal: Refusal) -> Answer {
     Ok(format!(in alloc; "refused {code} {refusal:?}")?)
 }
 
+/// Whether an answer is a refusal, by a call or in a reply.
+pub fn is_refused(answer: &str) -> bool {
+    answer.starts_with("refused ") || answer.starts_with("ERR ")
+}
+
+/// Whether an answer is the refusal with this number and name.
+pub fn is_refusal(answer: &str, refusal: &str) -> bool {
+    is_refused(answer) && answer.ends_with(refusal)
+}
+
 /// A number, or a refusal.
 fn spell_count(alloc: Global, answer: Result<u64, Refusal>) -> Answer {
     match answer {
@@ -45,49 +48,7 @@ fn spell_count(alloc: Global, answer: Result<u64, Refusal>) -> Answer {
     }
 }
 
-/// `done`, or a refusal.
-fn spell_done(alloc: Global, answer: Result<(), Refusal>) -> Answer {
-    match answer {
-        Ok(()) => Ok(String::from_str(alloc, "done")?),
-        Err(refusal) => spell_refusal(alloc, refusal),
-    }
-}
-
-/// The receipt of an import, or a refusal.
-pub fn spell_receipt(alloc: Global, answer: Result<Receipt, Refusal>) -> Answer {
-    match answer {
-        Ok(
-            Receipt {
-                number,
-                new,
-                repeated,
-            },
-        ) => Ok(format!(in alloc; "{number}: {new} new, {repeated} repeated")?),
-        Err(refusal) => spell_refusal(alloc, refusal),
-    }
-}
-
-/// The receipt of an import at a later time.
-fn spell_brought(alloc: Global, brought: ImportReceipt) -> Answer {
-    let new = brought.new;
-    match brought.latest {
-        Some(day) => {
-            let day = day.value();
-            Ok(format!(in alloc; "{new} new, the latest of {day}")?)
-        }
-        None => Ok(format!(in alloc; "{new} new")?),
-    }
-}
-
-/// A number, or `none`.
-fn spell_some(alloc: Global, number: Option<u64>) -> Answer {
-    match number {
-        Some(number) => Ok(format!(in alloc; "{number}")?),
-        None => Ok(String::from_str(alloc, "none")?),
-    }
-}
-
-/// What a store reports.
+/// What a store reports: a number, or `none`.
 fn show(alloc: Global, store: &Example, word: &str) -> Answer {
     let number = match word {
         "imports" => Some(u64::from(store.imports())),
@@ -100,47 +61,17 @@ fn show(alloc: Global, store: &Example, word: &str) -> Answer {
         "latest" => store.latest_time().map(|day| u64::from(day)),
         _ => return Err(NoAnswer::NoQuestion),
     };
-    spell_some(alloc, number)
-}
-
-/// Whether the store has exactly the rows of the first samples.
-fn spell_held(alloc: Global, store: &mut Example) -> Answer {
-    let imports = store.imports();
-    match holds(alloc, store, imports) {
-        Ok(is_so) => Ok(String::from_str(alloc, if is_so { "yes" } else { "no" })?),
-        Err(refusal) => spell_refusal(alloc, refusal),
+    match number {
+        Some(number) => Ok(format!(in alloc; "{number}")?),
+        None => Ok(String::from_str(alloc, "none")?),
     }
-}
-
-/// Imports the samples that the store lacks.
-fn complete(store: &mut Example) -> Result<(), Refusal> {
-    let imports = store.imports() as usize;
-    for (number, name) in SAMPLES.iter().enumerate() {
-        if number >= imports {
-            store.import_sample(*name)?;
-        }
-    }
-    Ok(())
 }
 
 /// Makes a call, or prints what the store reports.
 pub fn call(alloc: Global, store: &mut Example, word: &str, words: &str) -> Answer {
     match (word, words) {
         ("step", rows) => spell_count(alloc, store.merge_step(number(rows)?)),
-        ("receipt", import) => match store.receipt(number(import)?) {
-            Ok(brought) => spell_brought(alloc, brought),
-            Err(refusal) => spell_refusal(alloc, refusal),
-        },
-        ("digest", pin) => match store.digest(number(pin)?) {
-            Ok(digest) => spell_hex(alloc, &digest),
-            Err(refusal) => spell_refusal(alloc, refusal),
-        },
-        ("begin", "") => spell_count(alloc, store.merge_begin()),
-        ("publish", "") => spell_done(alloc, store.merge_publish()),
-        ("abandon", "") => spell_done(alloc, store.merge_abandon()),
         ("trim", "") => spell_count(alloc, store.trim()),
-        ("holds", "") => spell_held(alloc, store),
-        ("complete", "") => spell_done(alloc, complete(store)),
         (_, "") => show(alloc, store, word),
         _ => Err(NoAnswer::NoQuestion),
     }

@@ -1,33 +1,46 @@
 //! Questions about the disk of a closed store.
 //!
 //! Each of these closes the store and opens it again:
-//! - `open` prints `done`, `length` how many bytes the disk has, and `lists`, followed by words of
-//!   `contents.rt`, whether the disk's newer content block is as they say;
+//! - `open` prints `done`, `length` how many bytes the disk has, and `slot A` or `slot B` the gate of
+//!   a slot and the lines of its content block that aren't zeros, in hexadecimal;
 //! - `patch FROM TO BYTE` writes a byte at all offsets from one up to another; `break CALLS` lets
 //!   the changing call after CALLS others fail before the store is opened, and `torn CALLS` does
 //!   the same with one byte of that call written.
 //!
 //! - `bytes FROM TO` prints the bytes of the disk from one offset up to another, in hexadecimal;
+//! - `changes` prints how many changing calls were made on the disk, of which the opening that
+//!   follows makes one;
+//! - `crash CHOICE LEFT` replaces the disk by what a crash leaves before the last LEFT changing
+//!   calls, and `spoil READS` by one with the same bytes, of which only so many reads are sound:
+//!   all further ones give zeros;
 //! - `turned FROM TO BITS` inverts these bits of each byte from one offset up to another, one byte
 //!   at a time, and prints how many of these changes leave a disk that isn't opened as a store
 //!   because it is damaged.
 //!
-//! `changes` closes the store and prints how many changing calls were made on the disk; a new store
-//! follows. `new` begins with a new store too, and `new-in-three` with one of layout 3.
+//! `new` begins with a new store, and `new-in-three` with one of layout 3.
 
-use crate::contents::lists;
 use case_files::{Answer, NoAnswer};
-use case_values::{first_word, number, spell_hex};
+use case_values::{choice_of, first_word, number, spell_block, spell_number, spell_part};
 use disk_model::MemDisk;
 use history_store::Refusal;
 use std::alloc::Global;
-use test_support::{Example, patch};
+use test_support::{Example, image_before_end, patch};
 
 /// Whether the store is closed and opened again for this word.
 pub fn reopens(word: &str) -> bool {
     matches!(
         word,
-        "open" | "length" | "lists" | "bytes" | "turned" | "patch" | "break" | "torn"
+        "open"
+            | "length"
+            | "slot"
+            | "bytes"
+            | "turned"
+            | "patch"
+            | "break"
+            | "torn"
+            | "changes"
+            | "crash"
+            | "spoil"
     )
 }
 
@@ -62,23 +75,28 @@ fn count_turned(alloc: Global, bytes: &[u8], words: &str) -> Answer {
     Ok(format!(in alloc; "{damaged} of {count} damaged")?)
 }
 
-/// Answers a question about the bytes of a disk.
-pub fn ask_disk(alloc: Global, bytes: &[u8], word: &str, words: &str) -> Answer {
+/// The gate and the content block of a slot.
+fn spell_slot(alloc: Global, bytes: &[u8], name: &str) -> Answer {
+    let gate: usize = match name {
+        "A" => 0,
+        "B" => 8_192,
+        _ => return Err(NoAnswer::NoQuestion),
+    };
+    let first = *bytes.get(gate).ok_or(NoAnswer::NoQuestion)?;
+    let content = bytes.get(gate + 4_096..gate + 8_192);
+    let content = spell_block(alloc, content.ok_or(NoAnswer::NoQuestion)?)?;
+    Ok(format!(in alloc; "{first:02x}\n{content}")?)
+}
+
+/// Answers a question about a disk.
+pub fn ask_disk(alloc: Global, disk: &MemDisk, word: &str, words: &str) -> Answer {
+    let bytes = disk.bytes();
     match (word, words) {
-        ("length", "") => {
-            let length = bytes.len();
-            Ok(format!(in alloc; "{length}")?)
-        }
-        ("lists", words) => {
-            let is_so = lists(alloc, bytes, words)?;
-            Ok(String::from_str(alloc, if is_so { "yes" } else { "no" })?)
-        }
+        ("length", "") => spell_number(alloc, bytes.len() as u64),
+        ("changes", "") => spell_number(alloc, disk.changes()),
+        ("slot", words) => spell_slot(alloc, bytes, words),
         ("turned", words) => count_turned(alloc, bytes, words),
-        ("bytes", words) => {
-            let (from, to) = first_word(words)?;
-            let bytes = bytes.get(number(from)?..number(to)?);
-            spell_hex(alloc, bytes.ok_or(NoAnswer::NoQuestion)?)
-        }
+        ("bytes", words) => spell_part(alloc, bytes, words),
         _ => Ok(String::from_str(alloc, "done")?),
     }
 }
@@ -110,6 +128,20 @@ pub fn changed(
             disk.set_break(number(words)?, u64::from(word == "torn"));
             Ok(disk)
         }
+        "crash" => {
+            let (choice, left) = first_word(words)?;
+            let image = image_before_end(&disk, number(left)?, choice_of(choice)?)?;
+            Ok(MemDisk::from_bytes(alloc, image))
+        }
+        "spoil" => Ok(MemDisk::from_bytes(alloc, disk.bytes().to_vec(alloc)?)),
         _ => Ok(disk),
+    }
+}
+
+/// How many reads of the disk that is opened are sound.
+pub fn sound_reads(word: &str, words: &str) -> Result<u64, NoAnswer> {
+    match word {
+        "spoil" => number(words),
+        _ => Ok(u64::MAX),
     }
 }

@@ -1,29 +1,33 @@
-//! Worked examples of the calls of a store, as cases in files: imports, and which of them are
-//! refused; questions; merges during both, and trims; and what crashes, failures and damage leave.
+//! Stores on disks in memory by worked examples, which are cases in files: imports, and which of them
+//! are refused; questions; merges during both, and trims; what crashes, failures and damage leave;
+//! lines that come and go in pieces; and disks whose names come to refer to something else. What can
+//! be asked of the built program stands in bench/cases/.
 #![tactic(auto)]
 
 mod calls;
 mod case_state;
-mod contents;
 mod contradicting;
 mod copies;
 mod disks;
 mod failures;
+mod held;
 mod kept;
 mod lost;
+mod named;
 mod plain;
-mod questions;
 mod refusals;
-mod releases;
+mod runs;
 mod scripts;
+mod streams;
 mod trials;
 mod unknown;
+mod unspelled;
+mod unwritten;
+mod ways;
 
-use case_files::Asked;
 use std::process::ExitCode;
 use trials::Trials;
 
 fn main(rt: HostRuntime) -> ExitCode {
-    let mut asked = Asked::new(rt.alloc(), Trials::new(rt.alloc()));
-    case_files::run(&rt, "cases", &mut asked)
+    case_files::run(&rt, Trials::new(&rt))
 }

@@ -1,22 +1,23 @@
 //! Parts whose lines are calls, each after the word `call`, or bytes of a disk, each after `at` and
 //! the offset of the first, as in `at 4096 53435448`. A call is a question of this program. In a
-//! *look*, whose answers are printed one after the other, a call may also be
+//! *look*, whose answers are printed one after the other, in one line, a call may also be
 //! - `known PIN PART`, which prints the number of the remembered answers to the part that are equal
 //!   to the store's, where `PIN` stands for the pin;
+//! - `run PART`, which sends the lines of another part in one run (`runs.rt`);
 //! - `in-1 CALL`, a call that is made, and whose answer is printed, only by a store of layout 1.
 
+use crate::calls::is_refusal;
 use crate::case_state::CaseState;
-use case_files::{Answer, NoAnswer, two_words};
+use crate::runs::{Sent, run};
+use case_files::{Answer, NoAnswer, two_words, unquoted};
 use case_values::first_word;
-use std::alloc::Global;
+use std::alloc::{AllocError, Global};
 
-/// The answer to a call of a store that has to be opened again.
-const SHUT: &str = "refused 3 ReopenNeeded";
-
-/// A line of a part.
+/// A line of a part, and the word before it.
 #[derive(Drop)]
 struct Line {
     part: String,
+    word: String,
     text: String,
 }
 
@@ -28,9 +29,15 @@ pub struct Scripts {
     remembered: Vec<String>,
 }
 
+/// Appends a line with its end.
+fn put_line(bytes: &mut Vec<u8>, text: &str) -> Result<(), AllocError> {
+    bytes.extend_from_slice(text.as_bytes())?;
+    bytes.extend_from_slice(b"\n")
+}
+
 /// Whether a call is refused because the store has to be opened again.
 fn is_shut(state: &mut CaseState, call: &str) -> Result<bool, NoAnswer> {
-    Ok(state.ask_line(call)?.as_str() == SHUT)
+    Ok(is_refusal(state.ask_line(call)?.as_str(), "3 ReopenNeeded"))
 }
 
 impl Scripts {
@@ -49,11 +56,33 @@ impl Scripts {
     }
 
     /// Adds a line of a part.
-    pub fn give(&mut self, part: &str, text: &str) -> Result<(), NoAnswer> {
+    pub fn give(&mut self, part: &str, word: &str, text: &str) -> Result<(), NoAnswer> {
         let part = String::from_str(self.alloc, part)?;
+        let word = String::from_str(self.alloc, word)?;
         let text = String::from_str(self.alloc, text)?;
-        self.lines.push(Line { part, text })?;
+        self.lines.push(Line { part, word, text })?;
         Ok(())
+    }
+
+    /// What the lines of a part send to a server.
+    pub fn sent(&self, name: &str) -> Result<Sent, NoAnswer> {
+        let (mut bytes, mut later) = (Vec::new(self.alloc), Vec::new(self.alloc));
+        let mut count = 0u32;
+        for line in &self.lines {
+            if line.part.as_str() != name {
+                continue;
+            }
+            count = count.saturating_add(1);
+            match line.word.as_str() {
+                "bytes" => bytes.extend_from_slice(&unquoted(self.alloc, line.text.as_str())?)?,
+                "later" => put_line(&mut later, line.text.as_str())?,
+                _ => put_line(&mut bytes, line.text.as_str())?,
+            }
+        }
+        if count == 0 && name != "-" {
+            return Err(NoAnswer::NoQuestion);
+        }
+        Ok(Sent { bytes, later })
     }
 
     /// The lines of the part with this name; the part `-` has none.
@@ -113,6 +142,10 @@ impl Scripts {
         let (word, rest) = two_words(line);
         match word {
             "known" => Ok(Some(self.known(state, rest)?)),
+            "run" => {
+                let (answer, _) = run(self.alloc, self, state, rest)?;
+                Ok(Some(answer))
+            }
             "in-1" if state.layout_number() != 1 => Ok(None),
             "in-1" => Ok(Some(state.ask_line(rest)?)),
             _ => Ok(Some(state.ask(word, rest)?)),
@@ -130,7 +163,7 @@ impl Scripts {
                 if !text.is_empty() {
                     text.push_str(", ")?;
                 }
-                text.push_str(answer.as_str())?;
+                text.push_str(answer.replace(self.alloc, "\n", ", ")?.as_str())?;
             }
         }
         Ok(text)

@@ -8,10 +8,12 @@
 //!   closed and opened again, is equal to the kept one, byte for byte. `create` makes a store on
 //!   the kept disk, which has to stay unchanged if that is refused.
 //! - `remember PIN PART` and `known PIN PART` ask the store as `scripts.rt` says.
-//! - `crashes CHOICE SCRIPT LOOK` prints what a look shows of the store that each crash leaves,
-//! where
+//! - `crashes CHOICE SCRIPT LOOK` prints what a look shows of the store that each crash leaves, where
 //!   the choice says what becomes of unsynced bytes: `kept`, `lost`, or replaced by this byte. The
 //!   crashes are numbered by the changing calls before them.
+//! - `before-end CHOICES LAST LOOK` prints how many changing calls the store's disk had, and then the
+//!   same of crashes before the last of them, after each of these choices, which commas separate:
+//!   they are numbered by how many calls are left, up to LAST. The store is closed and opened again.
 //! - `fails FAILURE SCRIPT SHUT LOOK` lets one call of the disk fail, each in turn: one that
 //!   changes it, with none (`change`) or one (`torn`) of its bytes written, one that reads
 //!   (`read`), or all from one on (`all`). It prints how many runs met a failure, if in each of
@@ -19,30 +21,25 @@
 //!   refuses each call of the part SHUT, and what may be left of its disk looks as before the call
 //!   or as after it.
 //! - `cut`, `with` and `byte` are about the kept disk (`kept.rt`); for copies of it see
-//!   `copies.rt`.
+//!   `copies.rt`, for runs of the server `runs.rt`, and for disks with names `named.rt`.
 
-use crate::calls::{spell_refusal, store_of};
+use crate::calls::{is_refusal, is_refused, spell_refusal, store_of};
 use crate::case_state::CaseState;
 use crate::copies::{copy_kept, try_copies};
 use crate::failures::Failure;
 use crate::kept::{cut, put_at, try_byte, with};
+use crate::named::Named;
 use crate::refusals::all_refusals;
+use crate::runs::{ask_way, run};
 use crate::scripts::Scripts;
+use crate::unwritten::unwritten;
 use case_files::{Answer, Answers, NoAnswer};
-use case_values::{Groups, first_word, number};
-use disk_model::{Choice, MemDisk};
+use case_values::{Groups, choice_of, first_word, number};
+use disk_model::MemDisk;
 use history_store::Refusal;
 use std::alloc::Global;
-use test_support::{CHOICES, Example, image_after};
-
-/// What becomes of unsynced bytes: all are kept, all are lost, or each is replaced by this byte.
-fn choice_of(word: &str) -> Result<Choice, NoAnswer> {
-    match word {
-        "kept" => Ok(Choice::Kept),
-        "lost" => Ok(Choice::Lost),
-        _ => Ok(Choice::Filled(number(word)?)),
-    }
-}
+use std::rt::HostRuntime;
+use test_support::{CHOICES, Example, image_after, image_before_end};
 
 /// The names of the part that has to be refused after a failure, and of the one that looks at what
 /// is left.
@@ -65,21 +62,29 @@ enum Outcome {
 
 /// The disk with which trials begin, and the store of a case.
 #[derive(Drop)]
-pub struct Trials {
+pub struct Trials<'a> {
+    rt: &'a HostRuntime,
     alloc: Global,
     kept: Vec<u8>,
     scripts: Scripts,
     state: CaseState,
+    named: Named,
+    /// The replies of the last run.
+    last: Vec<u8>,
 }
 
-impl Trials {
+impl<'a> Trials<'a> {
     /// Without a kept disk.
-    pub fn new(alloc: Global) -> Trials {
+    pub fn new(rt: &'a HostRuntime) -> Trials<'a> {
+        let alloc = rt.alloc();
         Trials {
+            rt,
             alloc,
             kept: Vec::new(alloc),
             scripts: Scripts::new(alloc),
             state: CaseState::new(alloc),
+            named: Named::new(alloc),
+            last: Vec::new(alloc),
         }
     }
 
@@ -193,7 +198,7 @@ impl Trials {
     fn disk_behind(&mut self, script: &[String]) -> Result<MemDisk, NoAnswer> {
         self.begin_trial()?;
         for call in script {
-            if self.state.ask_line(call)?.starts_with("refused") {
+            if is_refused(&self.state.ask_line(call)?) {
                 return Err(NoAnswer::NoQuestion);
             }
         }
@@ -225,6 +230,55 @@ impl Trials {
             groups.put(self.look_at(image, look)?)?;
         }
         groups.end()
+    }
+
+    /// What a look shows of the stores that crashes leave of a disk, each before so many of its last
+    /// changing calls, from none on; each line after the choice.
+    fn left_of(&mut self, disk: &MemDisk, choice: &str, last: u64, look: &str) -> Answer {
+        let mut groups = Groups::new(self.alloc);
+        for left in 0..=last {
+            let image = image_before_end(disk, left, choice_of(choice)?)?;
+            groups.put(self.look_at(image, look)?)?;
+        }
+        let between = format!(in self.alloc; "\n{choice} ")?;
+        let lines = groups.end()?.replace(self.alloc, "\n", between.as_str())?;
+        Ok(format!(in self.alloc; "{between}{lines}")?)
+    }
+
+    /// What crashes leave by each of some choices, and the number of changing calls before them.
+    fn before_end(&mut self, words: &str) -> Answer {
+        let (choices, words) = first_word(words)?;
+        let (last, look) = first_word(words)?;
+        let last = number(last)?;
+        let disk = self.state.close()?;
+        let calls = disk.changes();
+        let mut text = format!(in self.alloc; "{calls} calls")?;
+        for choice in choices.split(',') {
+            let left = self.left_of(&disk, choice, last, look)?;
+            text.push_str(&left)?;
+        }
+        self.open(disk)?;
+        Ok(text)
+    }
+
+    /// Sends the lines of a part in one run.
+    fn run_part(&mut self, part: &str) -> Answer {
+        let (answer, taken) = run(self.alloc, &self.scripts, &mut self.state, part)?;
+        self.last = taken;
+        Ok(answer)
+    }
+
+    /// Sends the lines of a part to a new store in a way.
+    fn ask_way(&mut self, word: &str, words: &str) -> Answer {
+        self.state.put(store_of(Example::new(self.alloc))?);
+        let asked = (word, words);
+        ask_way(
+            self.alloc,
+            &self.scripts,
+            &mut self.state,
+            asked,
+            &self.last,
+        )
     }
 
     /// Whether each image of a disk is equal to the kept disk, if one is kept.
@@ -279,13 +333,13 @@ impl Trials {
         for (number, call) in script.iter().enumerate() {
             let before = self.state.counts();
             let answer = self.state.ask_line(call)?;
-            if answer.as_str() == "refused 2 DiskFault" {
+            if is_refusal(&answer, "2 DiskFault") {
                 if self.state.counts() != before {
                     return Ok(Outcome::Wrong("the counts changed"));
                 }
                 return self.fall(wanted, looks.get(number..number.saturating_add(2)));
             }
-            if answer.starts_with("refused") {
+            if is_refused(&answer) {
                 return Ok(Outcome::Wrong("another refusal"));
             }
         }
@@ -311,7 +365,7 @@ impl Trials {
     }
 
     /// A run in which a call fails after `calls` others.
-    fn run(
+    fn run_with(
         &mut self,
         (failure, calls): (Failure, u64),
         script: &[String],
@@ -338,7 +392,7 @@ impl Trials {
         let script = self.scripts.lines_of(script)?;
         let looks = self.looks(&script, look)?;
         for calls in 0..10_000u64 {
-            match self.run((failure, calls), &script, Wanted { shut, look }, &looks)? {
+            match self.run_with((failure, calls), &script, Wanted { shut, look }, &looks)? {
                 Outcome::Failed => {}
                 Outcome::Whole => return Ok(format!(in self.alloc; "{calls} failures")?),
                 Outcome::Wrong(why) => return Ok(format!(in self.alloc; "{why}, behind {calls}")?),
@@ -376,16 +430,18 @@ impl Trials {
     }
 }
 
-impl Answers for Trials {
+impl Answers for Trials<'_> {
     fn begin(&mut self) {
         self.kept.clear();
+        self.last.clear();
+        self.named = Named::new(self.alloc);
         self.scripts.begin();
         self.state.begin();
     }
 
     fn give(&mut self, part: &str, word: &str, rest: &str) -> Result<(), NoAnswer> {
         match word {
-            "call" | "at" => self.scripts.give(part, rest),
+            "call" | "at" | "bytes" | "later" => self.scripts.give(part, word, rest),
             _ => self.state.give(part, word, rest),
         }
     }
@@ -394,6 +450,11 @@ impl Answers for Trials {
         match word {
             "crashes" => self.crashes(rest),
             "fails" => self.fails(rest),
+            "before-end" => self.before_end(rest),
+            "run" => self.run_part(rest),
+            "way" | "noted-way" => self.ask_way(word, rest),
+            "named" => self.named.answer(rest),
+            "unwritten" => unwritten(self.rt, rest),
             "refusals" => all_refusals(self.alloc),
             "remember" => self.scripts.remember(&mut self.state, rest),
             "known" => self.scripts.known(&mut self.state, rest),

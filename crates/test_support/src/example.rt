@@ -1,71 +1,101 @@
 //! A wrapper around `Store` without contracts, which makes tests quick to prove.
 
-use crate::releases::sample_named;
+ghost use Rattle.std.specs.Prelude.{◌≤◌, IfSome};
+
+use crate::disks::Spoiled;
 use disk_model::MemDisk;
-use history_store::{Layout, Receipt, Refusal, Store};
+use history_store::{Layout, Refusal, RowQuestion, Store};
 use import_check::{Contradictions, Release};
+use line_server::{Held, ServeFault, Source, serve};
 use rf2_rows::Key;
 use std::alloc::Global;
-use std::mem::size_of;
+use std::io::{Read, Write};
+
+/// How many reads are more than enough for a line.
+const READS: u32 = 9;
 
 /// A store on a disk in memory. It is boxed, so that a test which drops it is proved without
 /// looking at the fields of a store.
 #[derive(Drop)]
 pub struct Example {
-    pub(crate) alloc: Global,
-    pub(crate) store: Box<Store<MemDisk>>,
+    alloc: Global,
+    store: Box<Store<Spoiled>>,
 }
 
-/// Puts the store in a box, or returns the disk.
-fn put_in_box(alloc: Global, store: Store<MemDisk>) -> Result<Example, (Refusal, MemDisk)> {
-    match Box::new(alloc, store) {
-        Ok(store) => Ok(Example { alloc, store }),
-        Err(failed) => Err((Refusal::OutOfMemory, failed.value.close())),
+/// The disk, of which all reads are sound.
+fn sound(disk: MemDisk) -> Spoiled {
+    Spoiled {
+        disk,
+        sound_reads: u64::MAX,
     }
+}
+
+/// Puts the store in a box, or returns the disk and why there is none.
+fn put_in_box(
+    alloc: Global,
+    made: Result<Store<Spoiled>, (Refusal, Spoiled)>,
+) -> Result<Example, (Refusal, MemDisk)> {
+    match made {
+        Ok(store) => match Box::new(alloc, store) {
+            Ok(store) => Ok(Example { alloc, store }),
+            Err(failed) => Err((Refusal::OutOfMemory, failed.value.close().disk)),
+        },
+        Err((refusal, spoiled)) => Err((refusal, spoiled.disk)),
+    }
+}
+
+/// The store, without the disk of one that is refused.
+fn store_of(made: Result<Example, (Refusal, MemDisk)>) -> Result<Example, Refusal> {
+    match made {
+        Ok(example) => Ok(example),
+        Err((refusal, _)) => Err(refusal),
+    }
+}
+
+/// The pin, unless there are fewer imports.
+fn pin_within(store: &Store<Spoiled>, pin: u32) -> Option<u32>
+    ensures { IfSome result (λ pin. pin ≤ store.now.history.imports) }
+{
+    if pin > store.imports() {
+        return None;
+    }
+    Some(pin)
 }
 
 impl Example {
-    /// A new store on an empty disk.
+    /// A new store of layout 2 on an empty disk.
     pub fn new(alloc: Global) -> Result<Example, Refusal> {
-        match Example::create(alloc, MemDisk::new(alloc)) {
-            Ok(example) => Ok(example),
-            Err((refusal, _)) => Err(refusal),
-        }
+        store_of(Example::create(alloc, MemDisk::new(alloc)))
     }
 
-    /// Makes a new store on this disk, or returns the disk. Memory for the box is allocated first,
-    /// so that a call that runs out of memory leaves the disk unchanged.
+    /// Makes a new store on this disk, or returns the disk.
     pub fn create(alloc: Global, disk: MemDisk) -> Result<Example, (Refusal, MemDisk)> {
-        let Ok(room) = Vec::<u8>::with_capacity(alloc, size_of::<Store<MemDisk>>()) else {
-            return Err((Refusal::OutOfMemory, disk));
-        };
-        let store = Store::create(alloc, disk)?;
-        drop(room);
-        put_in_box(alloc, store)
+        put_in_box(alloc, Store::create(alloc, sound(disk)))
     }
 
     /// A new store of layout 3.
     pub fn new_in_three(alloc: Global) -> Result<Example, Refusal> {
-        match Store::create_in(alloc, MemDisk::new(alloc), Layout::Three) {
-            Ok(store) => match put_in_box(alloc, store) {
-                Ok(example) => Ok(example),
-                Err((refusal, _)) => Err(refusal),
-            },
-            Err((refusal, _)) => Err(refusal),
-        }
+        let made = Store::create_in(alloc, sound(MemDisk::new(alloc)), Layout::Three);
+        store_of(put_in_box(alloc, made))
     }
 
     /// Opens the store that a disk represents, or returns the disk.
     pub fn open(alloc: Global, disk: MemDisk) -> Result<Example, (Refusal, MemDisk)> {
-        put_in_box(alloc, Store::open(alloc, disk)?)
+        put_in_box(alloc, Store::open(alloc, sound(disk)))
     }
 
     /// Opens the store that a disk represents.
     pub fn opened(alloc: Global, disk: MemDisk) -> Result<Example, Refusal> {
-        match Example::open(alloc, disk) {
-            Ok(example) => Ok(example),
-            Err((refusal, _)) => Err(refusal),
-        }
+        store_of(Example::open(alloc, disk))
+    }
+
+    /// Opens the store that a disk represents, all reads of which but the first ones give zeros.
+    pub fn open_spoiled(
+        alloc: Global,
+        disk: MemDisk,
+        sound_reads: u64,
+    ) -> Result<Example, Refusal> {
+        store_of(put_in_box(alloc, Store::open(alloc, Spoiled { disk, sound_reads })))
     }
 
     /// Opens the store that a disk of these bytes represents.
@@ -73,23 +103,54 @@ impl Example {
         Example::opened(alloc, MemDisk::from_bytes(alloc, bytes.to_vec(alloc)?))
     }
 
-    /// A new store after importing these sample releases.
-    pub fn after(alloc: Global, names: &[&str]) -> Result<Example, Refusal> {
-        let mut example = Example::new(alloc)?;
-        for name in names {
-            example.import_sample(name)?;
+    /// Serves the lines of an input with at most `reads` reads.
+    pub fn serve<S: Source, R: Read, W: Write>(
+        &mut self,
+        source: &mut S,
+        reads: u32,
+        input: &mut R,
+        output: &mut W,
+    ) -> Result<u64, ServeFault> {
+        serve(
+            self.alloc,
+            input,
+            output,
+            source,
+            &mut self.store,
+            reads,
+            Held::Nothing,
+        )
+    }
+
+    /// The reply to a line, which is served by itself, so no session is pinned.
+    pub fn reply<S: Source>(&mut self, source: &mut S, line: &str) -> Result<Vec<u8>, ServeFault> {
+        let mut input = line.as_bytes();
+        let mut output = Vec::new(self.alloc);
+        self.serve(source, READS, &mut input, &mut output)?;
+        Ok(output)
+    }
+
+    /// How many rows a question finds; none if there are fewer imports than the pin.
+    pub fn count(
+        &mut self,
+        question: &RowQuestion<'_>,
+        pin: u32,
+    ) -> Option<Result<usize, Refusal>> {
+        let pin = pin_within(&self.store, pin)?;
+        match self.store.select(question, pin) {
+            Ok(rows) => Some(Ok(rows.len())),
+            Err(refusal) => Some(Err(refusal)),
         }
-        Ok(example)
     }
 
-    /// Imports a release.
-    pub fn take(&mut self, release: Release) -> Result<Receipt, Refusal> {
-        self.store.import(release)
+    /// Merges up to this many more rows, or none, and returns how many are left.
+    pub fn merge_step(&mut self, rows: u32) -> Result<u64, Refusal> {
+        self.store.merge_step(rows)
     }
 
-    /// Checks a release, and imports nothing.
-    pub fn check(&mut self, release: Release) -> Result<Receipt, Refusal> {
-        self.store.check(release)
+    /// Truncates the disk after all segments, and returns how many bytes were cut off.
+    pub fn trim(&mut self) -> Result<u64, Refusal> {
+        self.store.trim()
     }
 
     /// The contradictions of a release, at most as many as the limit.
@@ -106,12 +167,6 @@ impl Example {
         self.store.import_of(key)
     }
 
-    /// Imports the sample release of this name.
-    pub fn import_sample(&mut self, name: &str) -> Result<Receipt, Refusal> {
-        let release = sample_named(self.alloc, name)?;
-        self.take(release)
-    }
-
     /// How many releases were imported.
     pub fn imports(&self) -> u32 {
         self.store.imports()
@@ -125,6 +180,11 @@ impl Example {
     /// How many rows the store holds.
     pub fn row_count(&self) -> u64 {
         self.store.row_count()
+    }
+
+    /// How many rows of the merge in progress are left.
+    pub fn merge_left(&self) -> Option<u64> {
+        self.store.merge_left()
     }
 
     /// How many blocks of the disk the store needs.
@@ -152,17 +212,6 @@ impl Example {
 
     /// Returns the disk.
     pub fn close(self) -> MemDisk {
-        Box::into_inner(self.store).close()
+        Box::into_inner(self.store).close().disk
     }
-}
-
-/// The disk after the sample releases and a merge of the first two segments.
-pub fn merged_disk(alloc: Global) -> Result<MemDisk, Refusal> {
-    let mut example = Example::after(alloc, &["r1", "r2"])?;
-    example.merge_begin()?;
-    example.merge_step(1)?;
-    example.import_sample("r3")?;
-    example.merge_step(100)?;
-    example.merge_publish()?;
-    Ok(example.close())
 }
