@@ -53,11 +53,11 @@ class Program:
     def __init__(self, program: Path, folder: Path) -> None:
         self.program, self.library = program, compiled("growths", folder)
 
-    def run(self, words: Sequence[str], folder: Path, given: bytes = b"",
+    def run(self, words: Sequence[str], folder: Path, given: str = "",
             refusals: Optional[Refusals] = None,
             around: Optional[dict[str, str]] = None) -> tuple[Ran, bool]:
         """Runs it in a folder, and tells if any request was refused for its number."""
-        mark = Path(str(folder) + ".refused")
+        mark = Path(f"{folder}.refused")
         around = dict(os.environ if around is None else around)
         if refusals is not None:
             around.update(LD_PRELOAD=str(self.library), REFUSED=str(mark),

@@ -156,7 +156,7 @@ def test_failed_sync(place: Place) -> None:
         if not reply.startswith("ERR 2 "):
             pytest.skip(f"the medium took the block: {reply!r}")
         medium.accept()
-        opening.drop_pages(str(medium.store))
+        opening.drop_pages(str(medium.store), is_read_only=False)
         assert status(place, medium.store) == "OK 1 6 1 -"
         stopped_import(place, medium, "r3", "KILL").communicate()
         medium.mount_again()

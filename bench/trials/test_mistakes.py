@@ -68,7 +68,7 @@ PARTS = "no folder Terminology or Refset/Content in it"
 PACKAGE = TOP / "docs" / "package" / "Full"
 CALLED = "0 CALLED 2000001 20200630 900000000000509007\n"
 TERM = b"Path"
-MISSING, FAILED = "ERR 45 NoFolder", "ERR 2 DiskFault"
+MISSING, FAILED, DAMAGED = "ERR 45 NoFolder", "ERR 2 DiskFault", "ERR 8 Damaged"
 IMPORT = ("import", "--quiet", "--store", "store", "--releases", "releases")
 
 # What stands at a path: a text, or what makes it.
@@ -395,11 +395,11 @@ def test_first_session(place: Place, words: Sequence[str], is_usual: bool) -> No
     found = bytearray(store.read_bytes())
     found[found.index(TERM)] ^= 1
     store.write_bytes(found)
-    ran = place.run("status", "--store", store)
+    words: list[str | Path] = ["status", "--store", store]
     if is_usual:
-        refused(ran, "ERR 8 Damaged", "the store is damaged: segment 1; restore your copy")
+        place.refuses(words, DAMAGED, "the store is damaged: segment 1; restore your copy")
     else:
-        assert ran.status == 0
+        assert place.run(*words).status == 0
 
 
 def test_help(place: Place) -> None:

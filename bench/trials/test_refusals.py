@@ -11,9 +11,9 @@ import pytest
 
 import growths_lines
 import growths_room
-from growths_harness import Program, Ran, Refusals
+from growths_harness import Program, Refusals
 from growths_lines import Runs, Served
-from harness import RELEASES, Place
+from harness import RELEASES, Place, Ran
 from soak_model import Model, Reply
 
 LINES = ["0 STATUS", "0 IMPORT r1", "0 GET C 1000004 20200131"]
@@ -25,7 +25,7 @@ TOO_MANY = 1_000_000
 class Generous(Program):
     """A program to which no request for memory is refused, whatever is asked for."""
 
-    def run(self, words: Sequence[str], folder: Path, given: bytes = b"",
+    def run(self, words: Sequence[str], folder: Path, given: str = "",
             refusals: Optional[Refusals] = None,
             around: Optional[dict[str, str]] = None) -> tuple[Ran, bool]:
         return super().run(words, folder, given)
@@ -128,6 +128,6 @@ def test_a_line_is_refused_that_takes_nothing(place: Place, monkeypatch: pytest.
 
 def test_another_reply_with_room_is_expected(place: Place, monkeypatch: pytest.MonkeyPatch,
                                              capsys: pytest.CaptureFixture[str]) -> None:
-    monkeypatch.setattr(growths_room.Model, "reply", lambda model, line: ["OK 1 6 1"])
+    monkeypatch.setattr(Model, "reply", lambda model, line: ["OK 1 6 1"])
     assert not rooms_on(place, monkeypatch)
     assert "WRONG: 'IMPORT r1': ['OK 1 6 0']" in capsys.readouterr().out
