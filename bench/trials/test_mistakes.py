@@ -395,11 +395,11 @@ def test_first_session(place: Place, words: Sequence[str], is_usual: bool) -> No
     found = bytearray(store.read_bytes())
     found[found.index(TERM)] ^= 1
     store.write_bytes(found)
-    words: list[str | Path] = ["status", "--store", store]
+    look: list[str | Path] = ["status", "--store", store]
     if is_usual:
-        place.refuses(words, DAMAGED, "the store is damaged: segment 1; restore your copy")
+        place.refuses(look, DAMAGED, "the store is damaged: segment 1; restore your copy")
     else:
-        assert place.run(*words).status == 0
+        assert place.run(*look).status == 0
 
 
 def test_help(place: Place) -> None:
