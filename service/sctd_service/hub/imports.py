@@ -100,12 +100,7 @@ class Found(NamedTuple):
 
 def found_in(text: bytes) -> Found:
     """What counts of a list."""
-    whole = text.rfind(b"\n") + 1
-    if not whole and FIRST_LINE.startswith(text):
-        return Found({}, is_cut=bool(text))
-    if not text.startswith(FIRST_LINE):
-        raise NotAList("it is no list of imports that this hub knows")
-    entries, unread = dict[int, Entry](), list[int]()
+    whole, entries, unread = whole_of(text), dict[int, Entry](), list[int]()
     for place, line in enumerate(text[:whole].split(b"\n")[1:-1], 2):
         if found := LINE.fullmatch(line):
             number, time, name, new, repeated, digest, who = map(bytes.decode, found.groups())
@@ -119,10 +114,18 @@ def found_in(text: bytes) -> Found:
     return Found(entries, whole, unread, whole < len(text))
 
 
+def whole_of(text: bytes) -> int:
+    """How many bytes of a list are whole lines."""
+    whole = text.rfind(b"\n") + 1
+    if not text.startswith(FIRST_LINE) and (whole or not FIRST_LINE.startswith(text)):
+        raise NotAList("it is no list of imports that this hub knows")
+    return whole
+
+
 def take_back(entries: dict[int, Entry], imports: int) -> None:
-    """Leaves those of so many imports."""
-    for number in [number for number in entries if number > imports]:
-        del entries[number]
+    """Leaves those of so many imports, of entries in the order of their numbers."""
+    while entries and (last := next(reversed(entries))) > imports:
+        del entries[last]
 
 
 def read(path: str) -> tuple[int, Found]:
@@ -153,7 +156,7 @@ def written(path: str, whole_list: Callable[[], bytes], lines: bytes) -> tuple[i
     number = os.open(path, os.O_RDWR | os.O_CREAT | os.O_NONBLOCK, 0o600)
     try:
         before = text_of(number)
-        whole = found_in(before).whole
+        whole = whole_of(before)
         text = lines if whole else whole_list()
         try:
             os.ftruncate(number, whole)
@@ -302,7 +305,7 @@ class ImportList:
 
     def text(self, imports: float = math.inf) -> bytes:
         """The list of so many imports as a file."""
-        entries = (entry for number, entry in sorted(self.entries.items()) if number <= imports)
+        entries = (entry for number, entry in self.entries.items() if number <= imports)
         return FIRST_LINE + b"".join(entry.text() + b"\n" for entry in entries)
 
     def told(self, imports: int) -> bytes:
@@ -370,7 +373,7 @@ def main(words: Sequence[str]) -> int:
         print("hub: %s: %s" % (asked.store, reason_of(why)), file=sys.stderr)
         return 1
     imports = int(status.stdout.split()[1])
-    later = [one for number, one in sorted(found.entries.items()) if number > imports]
+    later = [one for number, one in found.entries.items() if number > imports]
     told = ["it has lines of %d imports that the store doesn't have" % len(later)] * bool(later)
     for text in (*found.faults(), *told):
         print("hub: %s: %s" % (asked.store + ENDING, text), file=sys.stderr)
