@@ -182,6 +182,21 @@ def test_syncs(place: Place) -> None:
         text = text[opened + answered.end() :]
 
 
+def test_copies_wait(place: Place) -> None:
+    """A copy that is wanted while an import waits for its line has both."""
+    go_on, store, copy = place.path("go on"), place.make_store(), place.path("copy")
+    slow = waiting(place, "imports.py", "                digest.update(part)\n", go_on)
+    with Hub(slow, store) as hub:
+        client, owner = hub.client(), hub.client()
+        client.send(b"IMPORT r1\n")
+        until("the import", lambda: hub.client().ask("STATUS") == ["OK 1 6 1 -"])
+        owner.send(f"BACKUP {copy}\n".encode())
+        assert not owner.has_reply(0.5)
+        go_on.touch()
+        assert (client.read(), owner.read()) == (["OK 1 6 0"], ["OK 1 6 1"])
+    assert listed(copy) == listed(store) == [line_of(1, RELEASES / "r1", 6)]
+
+
 def test_end_while_a_digest_is_computed(place: Place) -> None:
     """It isn't waited for; the import has its line."""
     store = place.make_store()

@@ -18,7 +18,6 @@ import argparse
 import asyncio
 import contextlib
 import hashlib
-import math
 import os
 import re
 import stat
@@ -303,10 +302,9 @@ class ImportList:
             self.tell("another program has changed it: what it has now counts from the next start")
         self.size, self.unwritten = after, b""
 
-    def text(self, imports: float = math.inf) -> bytes:
-        """The list of so many imports as a file."""
-        entries = (entry for number, entry in self.entries.items() if number <= imports)
-        return FIRST_LINE + b"".join(entry.text() + b"\n" for entry in entries)
+    def text(self) -> bytes:
+        """The list as a file, without what doesn't count."""
+        return FIRST_LINE + b"".join(entry.text() + b"\n" for entry in self.entries.values())
 
     def told(self, imports: int) -> bytes:
         """What IMPORTS is answered. It is made once for each import."""
