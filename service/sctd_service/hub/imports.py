@@ -327,16 +327,16 @@ class ImportList:
         """The last import that was made by the end of a day."""
         if day > now()[: len(day)]:
             raise NotKnown(NO_IMPORT, "the day %s hasn't begun: days are those of UTC" % day)
-        made = [number for number, one in self.entries.items()
-                if number <= imports and one.time[: len(day)] <= day]
-        last = max(made, default=0)
+        last = max((number for number, one in self.entries.items()
+                    if number <= imports and one.time[: len(day)] <= day), default=0)
         if last < imports and last + 1 not in self.entries:
             raise NotKnown(NOT_LISTED, "the list of imports has no line for import %d, so it isn't "
                            "known whether it was made by the end of %s" % (last + 1, day))
         if not last:
             first = "which was made at %s" % self.entries[1].time if imports else "as there is none"
             raise NotKnown(NO_IMPORT, "the day %s is before the first import, %s" % (day, first))
-        if later := [number for number in self.entries if number < last and number not in made]:
+        if later := [number for number, one in self.entries.items()
+                     if number < last and one.time[: len(day)] > day]:
             raise NotKnown(NOT_LISTED, "the list of imports says of import %d that it was made "
                            "after %s, and of a later one that it wasn't" % (later[0], day))
         return self.entries[last]
