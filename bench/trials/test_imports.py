@@ -296,6 +296,28 @@ def test_two_take_backs(place: Place) -> None:
     assert [line for line in listed(store) if line.startswith("back")] == ["back\t3", "back\t2"]
 
 
+def test_take_back_that_was_none(place: Place) -> None:
+    """Where an older store was served by mistake, its line `back` can be deleted again."""
+    store, made = place.make_store(), nights(place, 3)
+    with Hub(place, store, releases=place.releases) as hub:
+        for release in made:
+            hub.client().ask(f"IMPORT {release.name}")
+        lines = rows(hub.client())
+    before = list_of(store).read_bytes()
+    store.rename(place.path("whole"))
+    place.copy(place.path("whole"), "store", 2)
+    with Hub(place, store) as hub:
+        assert len(rows(hub.client())) == 2
+    place.path("whole").replace(store)
+    after = list_of(store).read_bytes()
+    assert after.startswith(before + b"back\t2\t")
+    with Hub(place, store) as hub:
+        assert told(hub) == ["it has no line for 1 of 3 imports, the first of which is 3"]
+    list_of(store).write_bytes(after[: after.rindex(b"back")])
+    with Hub(place, store) as hub:
+        assert (told(hub), rows(hub.client())) == ([], lines)
+
+
 GARBAGE = b"4\tnot a line\n"
 CUT = b"4\t2020-10-01T09:00"
 
