@@ -11,9 +11,9 @@ compared with that of `digest.py`, which takes 440 bytes of memory for each row.
 
 What is printed is one page of counts, seconds, days and digests, without a code, a term or another
 part of the release, so that it may be sent to others. Standard error says what is being done. The
-status is 0 where all is the same, and 1 where something differs or can't be done. A package of a
-million rows and 20 days takes some minutes. It takes the folder `service/` and the script
-`digest.py` beside its own.
+status is 0 where all is the same, and 1 where something differs or can't be done. 100,000 rows of
+32 days took 8 seconds of a processor. It takes the folder `service/` and the script `digest.py`
+beside its own.
 """
 
 import argparse
@@ -199,6 +199,7 @@ def check(program: str, store: Path, package: Path, with_digest: bool) -> int:
     imported, seconds = run([program, "import", "--quiet", "--store", store, package / FULL])
     _, opening = run([program, "status", "--store", store])
     page.say("package", package.resolve().name)
+    page.say("checked on", time.strftime("%Y-%m-%d", time.gmtime()))
     page.say("program", run([program, "--version"])[0].replace("\n", "; "))
     memory = os.sysconf("SC_PAGE_SIZE") * os.sysconf("SC_PHYS_PAGES")
     page.say("machine", "%s processors, %.0f GB" % (os.cpu_count(), memory / 1e9))

@@ -182,6 +182,21 @@ def test_syncs(place: Place) -> None:
         text = text[opened + answered.end() :]
 
 
+def test_copies_wait(place: Place) -> None:
+    """A copy that is wanted while an import waits for its line has both."""
+    go_on, store, copy = place.path("go on"), place.make_store(), place.path("copy")
+    slow = waiting(place, "imports.py", "                digest.update(part)\n", go_on)
+    with Hub(slow, store) as hub:
+        client, owner = hub.client(), hub.client()
+        client.send(b"IMPORT r1\n")
+        until("the import", lambda: hub.client().ask("STATUS") == ["OK 1 6 1 -"])
+        owner.send(f"BACKUP {copy}\n".encode())
+        assert not owner.has_reply(0.5)
+        go_on.touch()
+        assert (client.read(), owner.read()) == (["OK 1 6 0"], ["OK 1 6 1"])
+    assert listed(copy) == listed(store) == [line_of(1, RELEASES / "r1", 6)]
+
+
 def test_end_while_a_digest_is_computed(place: Place) -> None:
     """It isn't waited for; the import has its line."""
     store = place.make_store()
@@ -279,6 +294,28 @@ def test_two_take_backs(place: Place) -> None:
         assert told(hub) == []
         assert rows(hub.client()) == last
     assert [line for line in listed(store) if line.startswith("back")] == ["back\t3", "back\t2"]
+
+
+def test_take_back_that_was_none(place: Place) -> None:
+    """Where an older store was served by mistake, its line `back` can be deleted again."""
+    store, made = place.make_store(), nights(place, 3)
+    with Hub(place, store, releases=place.releases) as hub:
+        for release in made:
+            hub.client().ask(f"IMPORT {release.name}")
+        lines = rows(hub.client())
+    before = list_of(store).read_bytes()
+    store.rename(place.path("whole"))
+    place.copy(place.path("whole"), "store", 2)
+    with Hub(place, store) as hub:
+        assert len(rows(hub.client())) == 2
+    place.path("whole").replace(store)
+    after = list_of(store).read_bytes()
+    assert after.startswith(before + b"back\t2\t")
+    with Hub(place, store) as hub:
+        assert told(hub) == ["it has no line for 1 of 3 imports, the first of which is 3"]
+    list_of(store).write_bytes(after[: after.rindex(b"back")])
+    with Hub(place, store) as hub:
+        assert (told(hub), rows(hub.client())) == ([], lines)
 
 
 GARBAGE = b"4\tnot a line\n"

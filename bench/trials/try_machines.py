@@ -333,20 +333,25 @@ class Site:
         """Has the readers take a backup, one after the other."""
         name = "%d.store" % self.imports
         copy = self.writer.place / "copies" / name
+        listed = Path("%s.imports" % copy)
         reply = self.writer.asked("BACKUP %s" % copy, self.writer.own)
         same("a backup", reply.split()[:2], ["OK", str(self.imports)])
         for reader in readers:
             to = reader.place / "copies" / name
-            run(*reader.within, *FETCH, str(to),
-                "http://%s:%d/%s" % (self.writer.address, COPIES_PORT, name))
+            for ending in ("", ".imports"):
+                run(*reader.within, *FETCH, str(to) + ending,
+                    "http://%s:%d/%s" % (self.writer.address, COPIES_PORT, name + ending))
             reader.note(-1)
             file = to.stat().st_ino
             said = run(*self.taking(reader, to)).splitlines()
             same("what take_copy.py says", said[-1:], ["OK %d" % self.imports])
             # (A file that was written over would be neither the one nor the other after a crash.)
             same("whether the copy is the store", reader.store.stat().st_ino == file, True)
+            own = Path("%s.imports" % reader.store)
+            same("the list of imports", own.read_bytes(), listed.read_bytes())
             reader.note(self.imports)
         copy.unlink()
+        listed.unlink()
 
     def taking(self, reader: Machine, copy: Path) -> list[str]:
         """The command that puts a copy in place on a machine."""

@@ -39,7 +39,8 @@ Beside the store, in FILE.imports, the hub keeps a list of the imports, with the
 the digest of each release, and who asked for it. `IMPORTS` prints it, and `KNOWN DAY` names the
 last import that was made by the end of a day, such as 20201015 (UTC). What is wrong with the list
 is logged, and stops nothing; while a line of it can't be written, STATUS ends with `Unlisted`.
-Without a hub, `sctd-hub imports` prints the list.
+Without a hub, `sctd-hub imports --store FILE` prints the list, and with `--to-repeat` only the
+names of the releases whose imports the store doesn't have.
 
 With `--read-only` the program only reads FILE, which others may do too, as a second hub on the
 copy that a reader has; there is only the socket of `--questions` then.

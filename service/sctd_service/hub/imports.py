@@ -18,7 +18,6 @@ import argparse
 import asyncio
 import contextlib
 import hashlib
-import math
 import os
 import re
 import stat
@@ -100,12 +99,7 @@ class Found(NamedTuple):
 
 def found_in(text: bytes) -> Found:
     """What counts of a list."""
-    whole = text.rfind(b"\n") + 1
-    if not whole and FIRST_LINE.startswith(text):
-        return Found({}, is_cut=bool(text))
-    if not text.startswith(FIRST_LINE):
-        raise NotAList("it is no list of imports that this hub knows")
-    entries, unread = dict[int, Entry](), list[int]()
+    whole, entries, unread = whole_of(text), dict[int, Entry](), list[int]()
     for place, line in enumerate(text[:whole].split(b"\n")[1:-1], 2):
         if found := LINE.fullmatch(line):
             number, time, name, new, repeated, digest, who = map(bytes.decode, found.groups())
@@ -119,10 +113,18 @@ def found_in(text: bytes) -> Found:
     return Found(entries, whole, unread, whole < len(text))
 
 
+def whole_of(text: bytes) -> int:
+    """How many bytes of a list are whole lines."""
+    whole = text.rfind(b"\n") + 1
+    if not text.startswith(FIRST_LINE) and (whole or not FIRST_LINE.startswith(text)):
+        raise NotAList("it is no list of imports that this hub knows")
+    return whole
+
+
 def take_back(entries: dict[int, Entry], imports: int) -> None:
-    """Leaves those of so many imports."""
-    for number in [number for number in entries if number > imports]:
-        del entries[number]
+    """Leaves those of so many imports, of entries in the order of their numbers."""
+    while entries and (last := next(reversed(entries))) > imports:
+        del entries[last]
 
 
 def read(path: str) -> tuple[int, Found]:
@@ -153,7 +155,7 @@ def written(path: str, whole_list: Callable[[], bytes], lines: bytes) -> tuple[i
     number = os.open(path, os.O_RDWR | os.O_CREAT | os.O_NONBLOCK, 0o600)
     try:
         before = text_of(number)
-        whole = found_in(before).whole
+        whole = whole_of(before)
         text = lines if whole else whole_list()
         try:
             os.ftruncate(number, whole)
@@ -300,10 +302,9 @@ class ImportList:
             self.tell("another program has changed it: what it has now counts from the next start")
         self.size, self.unwritten = after, b""
 
-    def text(self, imports: float = math.inf) -> bytes:
-        """The list of so many imports as a file."""
-        entries = (entry for number, entry in sorted(self.entries.items()) if number <= imports)
-        return FIRST_LINE + b"".join(entry.text() + b"\n" for entry in entries)
+    def text(self) -> bytes:
+        """The list as a file, without what doesn't count."""
+        return FIRST_LINE + b"".join(entry.text() + b"\n" for entry in self.entries.values())
 
     def told(self, imports: int) -> bytes:
         """What IMPORTS is answered. It is made once for each import."""
@@ -326,16 +327,16 @@ class ImportList:
         """The last import that was made by the end of a day."""
         if day > now()[: len(day)]:
             raise NotKnown(NO_IMPORT, "the day %s hasn't begun: days are those of UTC" % day)
-        made = [number for number, one in self.entries.items()
-                if number <= imports and one.time[: len(day)] <= day]
-        last = max(made, default=0)
+        last = max((number for number, one in self.entries.items()
+                    if number <= imports and one.time[: len(day)] <= day), default=0)
         if last < imports and last + 1 not in self.entries:
             raise NotKnown(NOT_LISTED, "the list of imports has no line for import %d, so it isn't "
                            "known whether it was made by the end of %s" % (last + 1, day))
         if not last:
             first = "which was made at %s" % self.entries[1].time if imports else "as there is none"
             raise NotKnown(NO_IMPORT, "the day %s is before the first import, %s" % (day, first))
-        if later := [number for number in self.entries if number < last and number not in made]:
+        if later := [number for number, one in self.entries.items()
+                     if number < last and one.time[: len(day)] > day]:
             raise NotKnown(NOT_LISTED, "the list of imports says of import %d that it was made "
                            "after %s, and of a later one that it wasn't" % (later[0], day))
         return self.entries[last]
@@ -370,7 +371,7 @@ def main(words: Sequence[str]) -> int:
         print("hub: %s: %s" % (asked.store, reason_of(why)), file=sys.stderr)
         return 1
     imports = int(status.stdout.split()[1])
-    later = [one for number, one in sorted(found.entries.items()) if number > imports]
+    later = [one for number, one in found.entries.items() if number > imports]
     told = ["it has lines of %d imports that the store doesn't have" % len(later)] * bool(later)
     for text in (*found.faults(), *told):
         print("hub: %s: %s" % (asked.store + ENDING, text), file=sys.stderr)

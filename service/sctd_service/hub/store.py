@@ -214,7 +214,7 @@ class Store:
         # (Between an import and its line in the list there is no copy.)
         async with self.imports_lock, self.changes:
             wanted = (await self.status())[:4]
-            text = self.list.text(int(wanted[1]))
+            text = self.list.text()
             self.copying = Copying(self.path, self.file, path)
             try:
                 made = await asyncio.to_thread(self.copying.copy)
