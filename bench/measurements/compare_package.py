@@ -19,7 +19,7 @@ from typing import Optional
 
 import make_release as rf2
 from compare_shell import DAYS, KEPT_SORTS, REFERENCED, SEED, Shell, Table, ask, columns_of
-from compare_shell import get_query, import_delta, import_full, newest, rows_alone, selected
+from compare_shell import import_delta, import_full, newest, query_of, rows_alone
 from measure_harness import Sctd, compared_by, made_release
 
 LAST_DAY = "20261231"
@@ -54,8 +54,8 @@ def pages(command: str, refset: str, ends: Sequence[str]) -> Questions:
         least = "" if after == "-" else " AND x.%s > %s" % (column, form % after)
         where = "%sx.refsetId = %s%s%s" % (active, refset, least, newest("Language", LAST_DAY))
         found.append(("%s %s %s %s %d" % (command, refset, LAST_DAY, after, LIMIT),
-                      selected("Language", where, " ORDER BY x.%s%s LIMIT %d" % (
-                          column, order, LIMIT))))
+                      "SELECT x.* FROM Language x WHERE %s ORDER BY x.%s%s LIMIT %d;" % (
+                          where, column, order, LIMIT)))
     return found
 
 
@@ -73,7 +73,7 @@ def lookups(full: Path, chance: random.Random) -> Questions:
     ids = [(sort, row[0]) for sort in rf2.FURTHER_SORTS if KEPT_SORTS[sort].kind == "M"
            for row in rf2.rows_of(full, sort)]
     drawn = [(*chance.choice(ids), chance.choice(DAYS)) for _ in range(LOOKUPS)]
-    return [("GET M %s %s" % (name, day), get_query("M", name, day, sort))
+    return [("GET M %s %s" % (name, day), query_of("GET %s %s %s" % (sort, name, day)))
             for sort, name, day in drawn]
 
 

@@ -24,7 +24,6 @@ import random
 import sys
 import time
 from collections.abc import Callable, Iterable, Iterator, Mapping, Sequence
-from functools import partial
 from pathlib import Path
 from typing import Optional
 
@@ -170,10 +169,44 @@ def table_of(sort: str) -> str:
 
 # ---- The shell's queries for lines of the protocol
 
-
-def selected(sort: str, where: str, behind: str = "") -> str:
-    """The query for the rows of a sort of which something holds."""
-    return "SELECT x.* FROM %s x WHERE %s%s;" % (sort, where, behind)
+REACHED = ("WITH RECURSIVE met (id) AS (SELECT x.{1} FROM R x WHERE x.{0} = {{name}} AND {2}"
+           " UNION SELECT x.{1} FROM met JOIN R x ON x.{0} = met.id WHERE {2})"
+           " SELECT id FROM met ORDER BY id;")
+IS_A_LINK = "x.active = 1 AND x.typeId = %d{latest[R]}" % IS_A
+ASSOCIATED = ("SELECT x.* FROM A x WHERE x.active = 1 AND x.{0} = {{name}}{{latest[A]}}"
+              " ORDER BY x.refsetId, x.{1}, x.id;")
+REFERENCED, TARGET = "referencedComponentId", "targetComponentId"
+# Each next date is looked up in the index of its table, which SQLite doesn't do by itself.
+DATES_OF = ("SELECT day FROM (WITH RECURSIVE met (day) AS (SELECT min(effectiveTime) FROM {0}"
+            " UNION ALL SELECT (SELECT min(effectiveTime) FROM {0} WHERE effectiveTime > day)"
+            " FROM met WHERE day NOT NULL) SELECT day FROM met WHERE day NOT NULL)")
+# By the better of the shell's two ways: the index on dates for few rows, and for many, which a plus
+# tells it, the order of the table.
+DELTA, LONG_DELTA = ("SELECT x.* FROM {kind} x WHERE %sx.effectiveTime > {begin} AND x.id > {after}"
+                     "{latest[%s]} ORDER BY x.id LIMIT {limit};" % way
+                     for way in (("", "its"), ("+", "plus")))
+# Of each command its words, and the query. `latest` is what holds of the latest version of a row of
+# some table up to the date.
+QUERIES = {
+    "GET": ("kind name date", "SELECT x.* FROM {kind} x WHERE {named} AND x.effectiveTime <= {date}"
+            " ORDER BY x.effectiveTime DESC LIMIT 1;"),
+    "HISTORY": ("kind name", "SELECT x.* FROM {kind} x WHERE {named} ORDER BY x.effectiveTime;"),
+    "ABOUT": ("kind name date", "SELECT x.* FROM {kind} x WHERE x.active = 1 AND x.{subject} ="
+              " {name}{latest[its]} ORDER BY x.id;"),
+    "PAGE": ("kind date after limit",
+             "SELECT x.* FROM {kind} x WHERE x.id > {after}{latest[its]} ORDER BY x.id LIMIT {limit};"),
+    "TERMS": ("date limit prefix", "SELECT x.* FROM D x WHERE x.active = 1 AND x.term LIKE"
+              " '{prefix}%'{latest[D]} ORDER BY x.id LIMIT {limit};"),
+    "CHILDREN": ("name date", "SELECT DISTINCT x.sourceId FROM R x WHERE x.destinationId = {name}"
+                 " AND " + IS_A_LINK + " ORDER BY x.sourceId;"),
+    "DELTA": ("kind begin date after limit", DELTA),
+    "TIMELINE": ("kind name", "SELECT x.* FROM {kind} x WHERE id IN (SELECT id FROM {kind} WHERE"
+                 " active = 1 AND {subject} = {name}) ORDER BY id, effectiveTime;"),
+    "REPLACED": ("name date", ASSOCIATED.format(REFERENCED, TARGET)),
+    "REPLACES": ("name date", ASSOCIATED.format(TARGET, REFERENCED)),
+    "ANCESTORS": ("name date", REACHED.format("sourceId", "destinationId", IS_A_LINK)),
+    "DESCENDANTS": ("name date", REACHED.format("destinationId", "sourceId", IS_A_LINK)),
+    "DATES": ("", " UNION ".join(map(DATES_OF.format, BASIC)) + " ORDER BY day;")}
 
 
 def newest(sort: str, date: str, row: str = "x") -> str:
@@ -181,92 +214,22 @@ def newest(sort: str, date: str, row: str = "x") -> str:
     return NEWEST.format(row, date, sort)
 
 
-def named(kind: str, name: str) -> str:
-    return "x.id = " + (repr(name) if kind in "AM" else name)
-
-
 def query_of(line: str) -> str:
-    """The query of a line of the protocol."""
-    command, *words = line.split(" ")
-    return QUERIES[command](*words)
-
-
-def get_query(kind: str, name: str, date: str, sort: str = "") -> str:
-    where = named(kind, name) + " AND effectiveTime <= " + date
-    return selected(sort or kind, where, " ORDER BY effectiveTime DESC LIMIT 1")
-
-
-def history_query(kind: str, name: str) -> str:
-    return selected(kind, named(kind, name), " ORDER BY effectiveTime")
-
-
-def about_query(kind: str, concept: str, date: str) -> str:
-    where = "x.active = 1 AND x.%s = %s%s" % (SUBJECTS[kind], concept, newest(kind, date))
-    return selected(kind, where, " ORDER BY x.id")
-
-
-def page_query(kind: str, date: str, after: str, limit: str) -> str:
-    where = "x.id > %s%s" % (after, newest(kind, date))
-    return selected(kind, where, " ORDER BY x.id LIMIT " + limit)
-
-
-def terms_query(date: str, limit: str, *prefix: str) -> str:
-    like = " ".join(prefix).replace("'", "''")
-    where = "x.active = 1 AND x.term LIKE '%s%%'%s" % (like, newest("D", date))
-    return selected("D", where, " ORDER BY x.id LIMIT " + limit)
-
-
-def children_query(concept: str, date: str) -> str:
-    return ("SELECT DISTINCT x.sourceId FROM R x WHERE x.active = 1 AND x.typeId = %d"
-            " AND x.destinationId = %s%s ORDER BY x.sourceId;" % (IS_A, concept, newest("R", date)))
-
-
-def associations_query(column: str, order: str, component: str, date: str) -> str:
-    where = "x.active = 1 AND x.%s = %s%s" % (column, component, newest("A", date))
-    return selected("A", where, " ORDER BY x.refsetId, x.%s, x.id" % order)
-
-
-def delta_query(kind: str, begin: str, date: str, after: str, limit: str) -> str:
-    """By the better of the shell's two ways: the index on dates for few rows, and for many, which
-    a plus tells it, the order of the table."""
-    time_of, latest = "x.effectiveTime", newest(kind, date)
-    if int(date) - int(begin) > 2 * YEAR:
-        time_of = "+x.effectiveTime"
-        latest = latest.replace("x.effectiveTime <=", "+x.effectiveTime <=", 1)
-    where = "%s > %s AND x.id > %s%s" % (time_of, begin, after, latest)
-    return selected(kind, where, " ORDER BY x.id LIMIT " + limit)
-
-
-def timeline_query(kind: str, concept: str) -> str:
-    ever = "SELECT id FROM %s WHERE active = 1 AND %s = %s" % (kind, SUBJECTS[kind], concept)
-    return selected(kind, "id IN (%s)" % ever, " ORDER BY id, effectiveTime")
-
-
-def reach_query(here: str, there: str, concept: str, date: str) -> str:
-    """What is reached from a concept, from one column of a relationship to the other."""
-    is_a = "x.active = 1 AND x.typeId = %d%s" % (IS_A, newest("R", date))
-    return ("WITH RECURSIVE met (id) AS (SELECT x.{1} FROM R x WHERE x.{0} = {2} AND {3}"
-            " UNION SELECT x.{1} FROM met JOIN R x ON x.{0} = met.id WHERE {3})"
-            " SELECT id FROM met ORDER BY id;").format(here, there, concept, is_a)
-
-
-def dates_query() -> str:
-    """Each next date is looked up in the index of its table, which SQLite doesn't do by itself."""
-    steps = ["SELECT day FROM (WITH RECURSIVE met (day) AS (SELECT min(effectiveTime) FROM {0}"
-             " UNION ALL SELECT (SELECT min(effectiveTime) FROM {0} WHERE effectiveTime > day)"
-             " FROM met WHERE day NOT NULL)"
-             " SELECT day FROM met WHERE day NOT NULL)".format(kind) for kind in BASIC]
-    return " UNION ".join(steps) + " ORDER BY day;"
-
-
-REFERENCED, TARGET = "referencedComponentId", "targetComponentId"
-QUERIES: dict[str, Callable[..., str]] = {
-    "GET": get_query, "HISTORY": history_query, "ABOUT": about_query, "PAGE": page_query,
-    "TERMS": terms_query, "CHILDREN": children_query, "DELTA": delta_query,
-    "TIMELINE": timeline_query, "REPLACED": partial(associations_query, REFERENCED, TARGET),
-    "REPLACES": partial(associations_query, TARGET, REFERENCED),
-    "ANCESTORS": partial(reach_query, "sourceId", "destinationId"),
-    "DESCENDANTS": partial(reach_query, "destinationId", "sourceId"), "DATES": dates_query}
+    """The query of a line of the protocol, in which a kind may be any sort of files."""
+    command, *given = line.split(" ")
+    names, query = QUERIES[command]
+    count = len(names.split())
+    words = dict(zip(names.split(), [*given[: count - 1], " ".join(given[count - 1 :])]))
+    kind, date = words.get("kind", "C"), words.get("date", "")
+    latest = {table: newest(table, date) for table in BASIC} | {"its": newest(kind, date)}
+    latest["plus"] = latest["its"].replace("x.effectiveTime <=", "+x.effectiveTime <=", 1)
+    if command == "DELTA" and int(date) - int(words["begin"]) > 2 * YEAR:
+        query = LONG_DELTA
+    if command == "TERMS":
+        words["prefix"] = words["prefix"].replace("'", "''")
+    name = words.get("name", "")
+    named = "x.id = " + (repr(name) if KEPT_SORTS[kind].kind in "AM" else name)
+    return query.format(**words, named=named, latest=latest, subject=SUBJECTS.get(kind))
 
 
 def is_plain(term: str) -> bool:

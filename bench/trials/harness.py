@@ -70,6 +70,8 @@ for line in sys.stdin.buffer:
 real.stdin.close()
 sys.exit(real.wait())
 """
+# strace beside what it traces, which keeps its place as the trial's child.
+TRACE = ("strace", "-D", "-f", "-qq")
 # When a line of a hub's log was written.
 TIME = re.compile(r"[0-9]{4}-[0-9]{2}-[0-9]{2}T[0-9]{2}:[0-9]{2}:[0-9]{2}Z ")
 # What it tells at its start of a store that it has imported nothing to.
@@ -490,6 +492,14 @@ class Client:
 def mode(path: Path) -> int:
     """The rights of a file, and not of what a link leads to."""
     return stat.S_IMODE(path.lstat().st_mode)
+
+
+def has_strace() -> bool:
+    """Whether strace is there, and allowed."""
+    if shutil.which("strace") is None:
+        return False
+    return subprocess.run([*TRACE, "-o", os.devnull, "true"], stderr=subprocess.DEVNULL,
+                          timeout=HUB_SECONDS, check=False).returncode == 0
 
 
 def children(number: int) -> set[int]:

@@ -13,8 +13,8 @@ from pathlib import Path
 
 import pytest
 
-from harness import HANDING_ON, HUB_SECONDS, RECORDER, RELEASES, TOP, Client, Hub, Place, Wrong
-from harness import concept, concept_id, mode, until, write_release
+from harness import HANDING_ON, HUB_SECONDS, RECORDER, RELEASES, TOP, TRACE, Client, Hub, Place
+from harness import Wrong, concept, concept_id, has_strace, mode, until, write_release
 from test_copies import begin_copy, slow_copies
 import make_release as rf2
 
@@ -113,31 +113,19 @@ def test_what_arrives(place: Place, store: Path) -> None:
     assert arrived.count("1 UNPIN") == 1
 
 
-def test_pins_apart(place: Place, store: Path) -> None:
+def test_pins_apart(hub: Hub) -> None:
     """No client can touch the pin of another one, on whichever sockets they are."""
-    with Hub(place, store, asks=True) as hub:
-        clients = [hub.asker(), hub.asker(), hub.client(), hub.client()]
-        assert clients[0].ask("PIN 1") == ["OK 1"]
-        assert clients[2].ask("PIN 1") == ["OK 1"]
-        for line in ("UNPIN", "PIN 2", "PIN", "1 UNPIN", "2 UNPIN", "3 UNPIN", "0 UNPIN",
-                     "UNPIN 1"):
-            clients[1].ask(line)
-            clients[3].ask(line)
-        for client in clients[::2]:
-            assert client.ask("RECEIPT 2") == ["ERR 44 PinRange"]
-        for client in clients[1::2]:
-            assert client.ask("RECEIPT 2") == ["OK 2 4 20210131"]
-
-
-# strace beside what it traces, which keeps its place as the trial's child.
-TRACE = ["strace", "-D", "-f", "-qq"]
-
-
-def has_strace() -> bool:
-    if shutil.which("strace") is None:
-        return False
-    return subprocess.run(["strace", "-qq", "-o", "/dev/null", "true"], stderr=subprocess.DEVNULL,
-                          timeout=HUB_SECONDS, check=False).returncode == 0
+    clients = [hub.asker(), hub.asker(), hub.client(), hub.client()]
+    assert clients[0].ask("PIN 1") == ["OK 1"]
+    assert clients[2].ask("PIN 1") == ["OK 1"]
+    for line in ("UNPIN", "PIN 2", "PIN", "1 UNPIN", "2 UNPIN", "3 UNPIN", "0 UNPIN",
+                 "UNPIN 1"):
+        clients[1].ask(line)
+        clients[3].ask(line)
+    for client in clients[::2]:
+        assert client.ask("RECEIPT 2") == ["ERR 44 PinRange"]
+    for client in clients[1::2]:
+        assert client.ask("RECEIPT 2") == ["OK 2 4 20210131"]
 
 
 @pytest.mark.parametrize("has_group, wanted", ((False, 0o600), (True, 0o660)))

@@ -250,7 +250,6 @@ def test_refused_followers(place: Place, store: Path, words: list[str], why: str
     assert rows_of(place.path("file")) == []
 
 
-def test_followers_whose_file_is_none(place: Place, store: Path) -> None:
+def test_followers_whose_file_is_none(hub: Hub, place: Place, store: Path) -> None:
     """Of SQLite."""
-    with Hub(place, store, asks=True) as hub:
-        ends_with(place.run_script(FOLLOW, hub.questions, store), "follow: file is not a database")
+    ends_with(place.run_script(FOLLOW, hub.questions, store), "follow: file is not a database")

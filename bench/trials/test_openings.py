@@ -6,8 +6,7 @@ from pathlib import Path
 
 import pytest
 
-from harness import HUB, RELEASES, Hub, Place, Ran
-from test_duties import TRACE, has_strace
+from harness import HUB, RELEASES, TRACE, Hub, Place, Ran, has_strace
 
 SETTINGS = """# A comment
 [hub]

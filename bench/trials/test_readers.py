@@ -73,37 +73,33 @@ def ends_with(done: subprocess.CompletedProcess[bytes], why: str, status: int = 
     (b"STATUS", b"OK 2 10 2 -\n", 0), (b"", b"", 0),
     (b"STEP 1\nSTATUS\n", b"ERR 11 NoMerge\nOK 2 10 2 -\n", 1),
     (b"STATUS\nx\n", b"OK 2 10 2 -\nERR 42 Command\n", 1)))
-def test_client(place: Place, two_imports: Path, given: bytes, printed: bytes,
-                status: int) -> None:
+def test_client(hub: Hub, place: Place, given: bytes, printed: bytes, status: int) -> None:
     """client.py ends with 1 after an ERR, and never with a traceback."""
-    with Hub(place, two_imports) as hub:
-        done = place.run_script(CLIENT, hub.socket, given=given)
-        assert (done.stdout, done.returncode, done.stderr) == (printed, status, b"")
+    done = place.run_script(CLIENT, hub.socket, given=given)
+    assert (done.stdout, done.returncode, done.stderr) == (printed, status, b"")
 
 
-def test_client_unread(place: Place, two_imports: Path) -> None:
+def test_client_unread(hub: Hub, place: Place) -> None:
     """And where nobody reads what it prints."""
-    with Hub(place, two_imports) as hub:
-        unread = Script(place, CLIENT, hub.socket)
-        unread.output.close()
-        unread.send(b"STATUS\n")
-        assert unread.ended() == (1, "client: standard output: Broken pipe\n")
-        with open("/dev/full", "wb") as full:
-            done = subprocess.run(
-                [sys.executable, place.script(CLIENT), hub.socket], input=b"STATUS\n", stdout=full,
-                stderr=subprocess.PIPE, timeout=HUB_SECONDS, check=False, env=AROUND)
-        assert (done.returncode, done.stderr) == (
-            1, b"client: standard output: No space left on device\n")
+    unread = Script(place, CLIENT, hub.socket)
+    unread.output.close()
+    unread.send(b"STATUS\n")
+    assert unread.ended() == (1, "client: standard output: Broken pipe\n")
+    with open("/dev/full", "wb") as full:
+        done = subprocess.run(
+            [sys.executable, place.script(CLIENT), hub.socket], input=b"STATUS\n", stdout=full,
+            stderr=subprocess.PIPE, timeout=HUB_SECONDS, check=False, env=AROUND)
+    assert (done.returncode, done.stderr) == (
+        1, b"client: standard output: No space left on device\n")
 
 
-def test_client_whose_hub_ends(place: Place, two_imports: Path) -> None:
-    with Hub(place, two_imports) as hub:
-        left = Script(place, CLIENT, hub.socket)
-        left.send(b"STATUS\n")
-        assert left.output.readline() == b"OK 2 10 2 -\n"
-        assert hub.stop() == 0
-        left.send(b"STATUS\n")
-        assert left.ended() == (1, "client: the hub has ended\n")
+def test_client_whose_hub_ends(hub: Hub, place: Place) -> None:
+    left = Script(place, CLIENT, hub.socket)
+    left.send(b"STATUS\n")
+    assert left.output.readline() == b"OK 2 10 2 -\n"
+    assert hub.stop() == 0
+    left.send(b"STATUS\n")
+    assert left.ended() == (1, "client: the hub has ended\n")
 
 
 @pytest.mark.parametrize("path, why", (

@@ -21,7 +21,7 @@ from typing import NamedTuple
 
 import pytest
 
-from harness import BLOCK, Place, write_release
+from harness import BLOCK, Place, has_strace, write_release
 from moments import compiled
 import make_release as rf2
 
@@ -101,11 +101,8 @@ class Tracer:
 def tracer(place: Place, request: pytest.FixtureRequest) -> Tracer:
     """A tracer of either way. (strace may be there and not be allowed.)"""
     is_strace = request.param == "strace"
-    if shutil.which(request.param if is_strace else "cc") is None:
-        pytest.skip("there is no strace" if is_strace else "there is no C compiler")
-    words = ["strace", "-f", "-o", os.devnull, "true"]
-    if is_strace and subprocess.run(words, capture_output=True, check=False).returncode:
-        pytest.skip("strace doesn't run here")
+    if not (has_strace() if is_strace else shutil.which("cc")):
+        pytest.skip("strace doesn't run here" if is_strace else "there is no C compiler")
     return Tracer(place, is_strace)
 
 
