@@ -17,9 +17,8 @@ from pathlib import Path
 
 import pytest
 
-from harness import HUB, HUB_SECONDS, RELEASES, Client, Hub, Place, concept, mode, until
-from harness import write_release
-from test_duties import TRACE, has_strace
+from harness import HUB, HUB_SECONDS, RELEASES, TRACE, Client, Hub, Place, concept, has_strace
+from harness import mode, until, write_release
 
 FIRST_LINE = "sctd imports 1\n"
 TIME = "[0-9]{4}-[0-9]{2}-[0-9]{2}T[0-9]{2}:[0-9]{2}:[0-9]{2}Z"
