@@ -96,7 +96,7 @@ def rooms_on(place: Place, monkeypatch: pytest.MonkeyPatch, least: int = 1) -> b
     if shutil.which("cc") is None:
         pytest.skip("there is no C compiler")
     monkeypatch.setattr(growths_room, "LINES", ((IMPORTED[2:], least), ("TRIM", 0)))
-    monkeypatch.setattr(growths_room, "MERGED", b"OK 1 6 1 -\n")
+    monkeypatch.setattr(growths_room, "MERGED", "OK 1 6 1 -\n")
     return growths_room.are_right(Program(place.program, place.folder), place.folder)
 
 
