@@ -15,8 +15,7 @@ from collections.abc import Iterable
 from pathlib import Path
 
 import make_release as rf2
-from measure_harness import (
-    MANY_ROWS, ROWS, asked_for, made_release, print_head, print_row, timed)
+from measure_harness import (MANY_ROWS, ROWS, asked_for, made_release, print_head, print_row, timed)
 
 SEED = 7
 

@@ -198,8 +198,8 @@ class TestDesignations(Whole):
         said = self.service.gateway.fhir(EXPAND, url=url, includeDesignations="true")[1]
         designations = said["expansion"]["contains"][0]["designation"]
         found = {one["value"]: one for one in designations}
-        assert [context(one) for one in found["Anaemia"]["extension"]] == [(
-            demo.GB, demo.PREFERRED, SYNONYM)]
+        assert [context(one) for one in found["Anaemia"]["extension"]] == [
+            (demo.GB, demo.PREFERRED, SYNONYM)]
         assert found["Anaemia"]["use"]["code"] == SYNONYM
         assert "extension" not in found["An\u00e4mie"]
 

@@ -188,8 +188,8 @@ class TestRecords(Asked):
             lines = (lines[0], ("138875005", "2018-01-01", "1,25-x"))
         text = "\r\n".join(map(delimiter.join, lines))
         found = records_of(text)
-        assert [(one.code, one.day, one.term) for one in found] == [(
-            lines[1][0], "20180101", lines[1][2])]
+        assert [(one.code, one.day, one.term) for one in found] == [
+            (lines[1][0], "20180101", lines[1][2])]
 
     @pytest.mark.parametrize("text, found", (
         ("", []),

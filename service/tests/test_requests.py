@@ -235,8 +235,8 @@ class TestRequests(Asked):
                              ("application/fhir+json; q=0", 406),
                              ("text/html, */*;q=0.000", 406),
                              ("application/fhir+json;q=0.001", 200)):
-            assert (self.gateway.send(
-                        "GET", "/fhir/metadata", headers={"Accept": kind}).status == status)
+            answer = self.gateway.send("GET", "/fhir/metadata", headers={"Accept": kind})
+            assert answer.status == status, kind
         for kind, status in (
                 ("xml", 406), ("application/fhir+xml", 406), ("application/fhir+json", 200),
                 ("application/fhir json", 200), ("json", 200)):
@@ -373,9 +373,8 @@ class TestRequests(Asked):
         assert got.startswith(b"HTTP/1.1 413 ") and got.endswith(b"\r\n\r\n"), got
 
     def test_expect_100(self) -> None:
-        head = (
-            POST + b"Expect: 100-continue\r\nConnection: close\r\nContent-Length: %d\r\n\r\n" % len(
-                PARAMETERS))
+        end = b"Expect: 100-continue\r\nConnection: close\r\nContent-Length: %d\r\n\r\n"
+        head = POST + end % len(PARAMETERS)
         with self.gateway.connect() as connection:
             connection.sendall(head)
             assert connection.recv(1 << 16) == b"HTTP/1.1 100 Continue\r\n\r\n"

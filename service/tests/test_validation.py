@@ -153,10 +153,7 @@ class TestSubsumes(Asked):
             assert (told(said, "version"), told(said, "sctd-date")) == ([version(release)], [date])
 
     def test_codings_of_different_dates(self) -> None:
-        codings = [
-            {"name": name,
-             "valueCoding": {
-                 "system": SCT, "code": "138875005",
-                 "version": version(
-                     day)}} for name, day in (("codingA", "20180101"), ("codingB", "20190101"))]
+        coding = {"system": SCT, "code": "138875005"}
+        codings = [{"name": name, "valueCoding": {**coding, "version": version(day)}}
+                   for name, day in (("codingA", "20180101"), ("codingB", "20190101"))]
         assert self.service.gateway.posted("CodeSystem/$subsumes", *codings)[0] == 400

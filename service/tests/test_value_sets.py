@@ -157,8 +157,8 @@ class TestTranslate(Asked):
 
     def test_same_as(self) -> None:
         found = parts_of(self.ask("900000000000527005", "radius")[1], "match")
-        assert [(one["equivalence"], one["concept"]["code"]) for one in found] == [(
-            "equal", self.codes["radius2"])]
+        assert [(one["equivalence"], one["concept"]["code"]) for one in found] == [
+            ("equal", self.codes["radius2"])]
 
     @pytest.mark.parametrize("refset, target, equivalence", (
         (demo.WAS_A, "injury", "wider"),
