@@ -120,11 +120,10 @@ class TestRecords(Asked):
 
     def test_case_type_and_language_of_a_term(self) -> None:
         wrist = self.codes["wrist"]
-        for text, use in (("WRIST fracture", "Synonym (en)"),
-                          ("Handgelenksfraktur", "Synonym (de)"),
-                          ("fracture of wrist (disorder)", "Fully specified name (en)"),
-                          ("Wrist  fracture", ""),
-                          ("Broken wrist", "")):
+        for text, use in (
+                ("WRIST fracture", "Synonym (en)"), ("Handgelenksfraktur", "Synonym (de)"),
+                ("fracture of wrist (disorder)", "Fully specified name (en)"),
+                ("Wrist  fracture", ""), ("Broken wrist", "")):
             assert self.judged("%s,2018-01-01,%s" % (wrist, text))["term_then"] == use, text
 
     def test_lines_that_are_not_judged(self) -> None:
