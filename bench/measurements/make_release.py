@@ -308,8 +308,7 @@ MEMBER_BODIES: dict[str, Callable[[Edition], Columns]] = {
     "MRCMAttributeDomain": attribute_domain_body,
     "MRCMAttributeRange": attribute_range_body,
     "MRCMModuleScope": lambda edition: [
-        SCOPES, CORE, edition.random.choice([DOMAINS, ATTRIBUTE_DOMAINS, ATTRIBUTE_RANGES])],
-}
+        SCOPES, CORE, edition.random.choice([DOMAINS, ATTRIBUTE_DOMAINS, ATTRIBUTE_RANGES])]}
 
 
 class Package(Edition):
@@ -493,8 +492,7 @@ def make(folder: str | Path, rows: int, seed: int = 1, is_package: bool = False)
         new = delta(edition)
     write(str(to_delta), "Delta", DELTA_DATE, new)
     told = " ".join("%s %d" % (sort, counts[sort]) for sort in counts)
-    return Made(to_full, to_delta, "full: %s; delta: %d rows" % (
-        told, sum(map(len, new.values()))))
+    return Made(to_full, to_delta, "full: %s; delta: %d rows" % (told, sum(map(len, new.values()))))
 
 
 if __name__ == "__main__":

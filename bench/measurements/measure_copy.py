@@ -67,11 +67,9 @@ class Measured:
     def measure(self, what: str, layout: int, names: Sequence[str], digest: str) -> None:
         """Prints what is done with a store of a layout, and some releases."""
         store, copy = self.store(layout, names), self.place / "copy"
-        works = {
-            "open": ["status", "--store", str(store)],
-            "copy": ["copy", "--store", str(store), "--to", str(copy)],
-            "digest": ["digest", "--store", str(store)],
-        }
+        works = {"open": ["status", "--store", str(store)],
+                 "copy": ["copy", "--store", str(store), "--to", str(copy)],
+                 "digest": ["digest", "--store", str(store)]}
         costs: dict[str, list[Cost]] = {work: [] for work in works}
         for _ in range(TIMES):
             for work, words in works.items():

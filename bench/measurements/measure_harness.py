@@ -168,9 +168,8 @@ class Served:
 
     def __init__(self, program: str, path: str, releases: str) -> None:
         start = time.monotonic()
-        self.child = subprocess.Popen(
-            [program, "serve", "--store", path, "--releases", releases],
-            stdin=subprocess.PIPE, stdout=subprocess.PIPE)
+        self.child = subprocess.Popen([program, "serve", "--store", path, "--releases", releases],
+                                      stdin=subprocess.PIPE, stdout=subprocess.PIPE)
         assert self.child.stdin and self.child.stdout
         self.input, self.output, self.pid = self.child.stdin, self.child.stdout, self.child.pid
         self.replies(["0 STATUS"])

@@ -20,8 +20,7 @@ SEED = 2
 REFUSED = [OUT_OF_MEMORY.strip()]
 # The lines that take no memory, and those that are refused for what they say: no such line is
 # refused because memory ran out.
-NEVER = re.compile(
-    "[0-9]+ ((AT [0-9]+ )?RECEIPT|PIN|UNPIN|STATUS|MERGE|PUBLISH|ABANDON|TRIM)( |$)")
+NEVER = re.compile("[0-9]+ ((AT [0-9]+ )?RECEIPT|PIN|UNPIN|STATUS|MERGE|PUBLISH|ABANDON|TRIM)( |$)")
 NONE_READ = ("ERR 41 ", "ERR 42 ", "ERR 43 ")
 # How many requests in a row are refused, of how many numbers each first one, so that lines come
 # again after some were refused; of how many the runs are in which all behind one are; and of how
@@ -285,9 +284,9 @@ AGAIN = ["0 IMPORT r1", "0 MERGE", "0 STEP 100", "0 PUBLISH", "0 TRIM"]
 
 def samples() -> dict[str, list[File]]:
     """The files of each release that the demonstration imports, as the model takes them."""
-    return {folder.name: [
-        File(kind, True, list(rf2.rows_of(folder, kind)))
-        for kind in sorted(rf2.KINDS, key=soak.place_of)] for folder in RELEASES.iterdir()}
+    kinds = sorted(rf2.KINDS, key=soak.place_of)
+    return {folder.name: [File(kind, True, list(rf2.rows_of(folder, kind))) for kind in kinds]
+            for folder in RELEASES.iterdir()}
 
 
 def runs_of_script(program: Program, folder: Path, releases: Path,

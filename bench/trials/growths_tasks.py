@@ -56,8 +56,7 @@ TASKS = (
     Task("init --store a --store b", status=2),
     Task("import --store a --releases b", status=2),
     Task("--help"),
-    Task("import --help"),
-)
+    Task("import --help"))
 DEMO = Task("demo")
 
 
@@ -156,8 +155,7 @@ class Trial:
         """The first so many lines of faults with all memory."""
         return certain_faults(self.whole.faults)[:count]
 
-    def may_leave(self, way: tuple[str, str], begun: list[str], left: Files,
-                  folder: Path) -> bool:
+    def may_leave(self, way: tuple[str, str], begun: list[str], left: Files, folder: Path) -> bool:
         """Whether a task that was refused may have changed the files to these: to one without a
         byte, for a store or a copy; or by whole merges. What is left of a store is then made the
         one that the task makes, if it is done again."""

@@ -188,10 +188,9 @@ class Place:
     def run(self, *words: str | Path, given: str = "", around: Mapping[str, str] | None = None,
             before: Callable[[], object] | None = None) -> Ran:
         """Runs the program to its end. The process that becomes it does what is before it."""
-        done = subprocess.run(
-            [self.program, *words], cwd=self.folder, input=given.encode(), stdout=subprocess.PIPE,
-            stderr=subprocess.PIPE, timeout=self.seconds, env=around, preexec_fn=before,
-            check=False)
+        done = subprocess.run([self.program, *words], cwd=self.folder, input=given.encode(),
+                              stdout=subprocess.PIPE, stderr=subprocess.PIPE, timeout=self.seconds,
+                              env=around, preexec_fn=before, check=False)
         return Ran(done.returncode, done.stdout.decode(), done.stderr.decode())
 
     def done(self, *words: str | Path) -> str:

@@ -66,10 +66,9 @@ def odd_members(count: int) -> rf2.Sort:
 ODD_SORTS = {"Odd%d" % count: odd_members(count) for count in (0, 1, 3)}
 OTHER_ASSOCIATIONS = "OtherAssociations"
 UNKEPT = "StatedRelationship"
-SORTS = {
-    **rf2.BASIC_SORTS, **rf2.FURTHER_SORTS, **ODD_SORTS, UNKEPT: rf2.UNKEPT_SORTS[UNKEPT],
-    OTHER_ASSOCIATIONS: rf2.BASIC_SORTS["A"]._replace(
-        name="Refset/More/der2_cRefset_AssociationOther{}_INT_{}.txt")}
+SORTS = {**rf2.BASIC_SORTS, **rf2.FURTHER_SORTS, **ODD_SORTS, UNKEPT: rf2.UNKEPT_SORTS[UNKEPT],
+         OTHER_ASSOCIATIONS: rf2.BASIC_SORTS["A"]._replace(
+             name="Refset/More/der2_cRefset_AssociationOther{}_INT_{}.txt")}
 # Of which sorts rows are made, each as likely as another.
 DRAWN = [*"CCDDDDRRRRAV", *["Language"] * 4, *SORTS]
 # What may stand in a further column that no package has.
@@ -691,15 +690,14 @@ PARTS: dict[str, Callable[[Soak], object]] = {
     "after_C": lambda it: it.chance.choice(["-", it.after("C")]),
     "after_D": lambda it: it.after("D"),
     "after_M": lambda it: it.chance.choice(["-", "-", it.component("M"), rf2.ROOT]),
-    "after_value": lambda it: it.chance.choice(
-        ["-", it.told_by("M", REFERENCED), it.component("D")]),
+    "after_value": lambda it: it.chance.choice([
+        "-", it.told_by("M", REFERENCED), it.component("D")]),
     "prefix": lambda it: it.chance.choice(rf2.WORDS)[: it.chance.choice([1, 2, 9])].upper(),
     "import": lambda it: it.chance.randint(0, it.model.state.imports + 1),
     "days": lambda it: it.chance.choice(["DATES", "DATES", "DIGEST"]),
     "replacing": lambda it: it.told_by("A", TARGET), "subject": lambda it: it.subject(),
     "refset": lambda it: it.refset(), "named": lambda it: it.named(), "key": lambda it: it.key(),
-    "links": lambda it: it.links(),
-}
+    "links": lambda it: it.links()}
 
 
 def main() -> int:

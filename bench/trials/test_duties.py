@@ -64,8 +64,7 @@ AUDIT = [
     ("MEMBERS 900000000000509007 20210131 - 10", ["ERR 14 LaterVersion"]),
     ("VALUES 900000000000509007 20210131 - 10", ["ERR 14 LaterVersion"]),
     ("CALLED 1000004 20210131 900000000000509007", ["ERR 14 LaterVersion"]),
-    ("DIGEST", ["OK " + DIGEST_IN_2021]),
-]
+    ("DIGEST", ["OK " + DIGEST_IN_2021])]
 AT_A_PIN = [("AT 2 " + line, wanted) for line, wanted in AUDIT] + [
     ("AT 1 DATES", ["DATE 20200131", "END 1"]), ("AT 1 TIMELINE A 1000004", ["END 0"]),
     ("AT 1 DIGEST", ["OK " + DIGEST_IN_2020])]
@@ -118,8 +117,7 @@ def test_pins_apart(hub: Hub) -> None:
     clients = [hub.asker(), hub.asker(), hub.client(), hub.client()]
     assert clients[0].ask("PIN 1") == ["OK 1"]
     assert clients[2].ask("PIN 1") == ["OK 1"]
-    for line in ("UNPIN", "PIN 2", "PIN", "1 UNPIN", "2 UNPIN", "3 UNPIN", "0 UNPIN",
-                 "UNPIN 1"):
+    for line in ("UNPIN", "PIN 2", "PIN", "1 UNPIN", "2 UNPIN", "3 UNPIN", "0 UNPIN", "UNPIN 1"):
         clients[1].ask(line)
         clients[3].ask(line)
     for client in clients[::2]:
@@ -216,8 +214,7 @@ def test_the_log(place: Place) -> None:
     assert lines == [
         "CHECK r1: OK 1 6 0", "IMPORT r1: OK 1 6 0", "IMPORT r2: OK 2 4 0",
         "IMPORT r9: ERR 45 NoFolder", "STEP 1: ERR 11 NoMerge", "PUBLISH: OK",
-        "IMPORT r\\x1b[31m: ERR 43 Arguments",
-        "IMPORT a\\rb\\u2028c\\\\n: ERR 43 Arguments",
+        "IMPORT r\\x1b[31m: ERR 43 Arguments", "IMPORT a\\rb\\u2028c\\\\n: ERR 43 Arguments",
         f"BACKUP {copy}: OK 2 10 1", "IMPORT \\xff\\x00\\x7f: ERR 43 Arguments"]
     assert all(sign.isprintable() for sign in told.replace("\n", ""))
     assert f"sctd: {RELEASES / 'r9'}: no such folder" in told

@@ -121,11 +121,10 @@ def status(place: Place, store: Path) -> str:
 
 def stopped_import(place: Place, medium: Medium, release: str, sent: str) -> subprocess.Popen[str]:
     """An import that gets a signal at one of its syncs; the opening makes the first one."""
-    return subprocess.Popen(
-        ["strace", "-f", "-o", place.path("trace"), "-e", "trace=fsync", "-e",
-         f"inject=fsync:signal={sent}:when={CONTENT_SYNC}", place.program, "import", "--store",
-         medium.store, "--releases", RELEASES, release],
-        stdout=subprocess.PIPE, stderr=subprocess.DEVNULL, text=True)
+    return subprocess.Popen(["strace", "-f", "-o", place.path("trace"), "-e", "trace=fsync", "-e",
+                             f"inject=fsync:signal={sent}:when={CONTENT_SYNC}", place.program,
+                             "import", "--store", medium.store, "--releases", RELEASES, release],
+                            stdout=subprocess.PIPE, stderr=subprocess.DEVNULL, text=True)
 
 
 def wait_for_stop(trace: Path) -> int:

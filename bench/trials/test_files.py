@@ -88,10 +88,9 @@ def store_of_r1(place: Place) -> tuple[Path, bytes]:
 
 def run_closed(place: Place, words: Sequence[str], closed: Sequence[int]) -> int:
     """Runs the program without some of its standard descriptors. Its status."""
-    done = subprocess.run(
-        [place.program, *words], cwd=place.folder, timeout=place.seconds, check=False,
-        stdin=subprocess.DEVNULL, stdout=subprocess.DEVNULL, stderr=subprocess.DEVNULL,
-        preexec_fn=partial(close_all, closed))
+    done = subprocess.run([place.program, *words], cwd=place.folder, timeout=place.seconds,
+                          check=False, stdin=subprocess.DEVNULL, stdout=subprocess.DEVNULL,
+                          stderr=subprocess.DEVNULL, preexec_fn=partial(close_all, closed))
     return done.returncode
 
 

@@ -25,11 +25,9 @@ WRONG_SETTINGS = {
     "a number that isn't allowed": ("[hub]\nmerge-above = 251\n", "it isn't 1 to 250"),
     "a table that no command has": ("[hbu]\nmerge-above = 7\n", "hbu is neither [hub] nor"),
     "a key in no table": ("merge-above = 7\n", "merge-above is neither [hub] nor"),
-    "a value that no option has": (
-        "[hub]\nmerge-above = 7.5\n", "merge-above is no text, number"),
+    "a value that no option has": ("[hub]\nmerge-above = 7.5\n", "merge-above is no text, number"),
     "what isn't TOML": ("[hub]\nmerge-above: 7\n", "(at line 2, column 12)"),
-    "none": (None, "No such file or directory"),
-}
+    "none": (None, "No such file or directory")}
 
 
 def ended(place: Place, store: Path, *words: str) -> Ran:

@@ -160,9 +160,8 @@ def test_contradictions(place: Place) -> None:
     store = store_of_halves(place, first, second)
     places, more = contradictions_told(place, store, range(1, 7))
     others = [line.partition(" of the same id and date: ")[2] for line in places]
-    assert others == [
-        "import %d brought %s" % (number, concept(one, DATE).replace("\t", "\\t"))
-        for number, half in ((1, first), (2, range(4, 7))) for one in half]
+    assert others == ["import %d brought %s" % (number, concept(one, DATE).replace("\t", "\\t"))
+                      for number, half in ((1, first), (2, range(4, 7))) for one in half]
     assert more == []
     places, more = contradictions_told(place, store, range(1, MOST_TOLD + 6))
     assert len(places) == MOST_TOLD
@@ -286,8 +285,7 @@ REFUSED = {
         "store", "new --imports 4", "ERR 44 PinRange", "fewer imports"),
     "of a file that isn't there": ("absent", "new", FAULT, "No such file"),
     "of a text": ("text", "new", "ERR 7 NotAStore", "the file is no store"),
-    "of a damaged store": ("damaged", "new", "ERR 8 Damaged", "segment 1"),
-}
+    "of a damaged store": ("damaged", "new", "ERR 8 Damaged", "segment 1")}
 
 
 @pytest.mark.parametrize("store, to, reply, why", REFUSED.values(), ids=REFUSED.keys())

@@ -140,14 +140,12 @@ CHAINS = {
         description(4, 2, "Zwei (de)", "20100131", language="de"),
         description(5, 2, "Two (en)", "20110131"), description(6, 10, "Ten\rCR (late)", "20220131"),
         description(7, 4, "=1+1 (four)", "20100131")],
-    "A": [
-        association(1, rf2.SAME_AS, 2, 3), association(2, rf2.REPLACED_BY, 3, 4),
-        association(3, POSSIBLY_EQUIVALENT, 5, 1), association(4, POSSIBLY_EQUIVALENT, 5, 6),
-        association(5, rf2.SAME_AS, 6, 7), association(6, rf2.REPLACED_BY, 8, 9),
-        association(7, rf2.REPLACED_BY, 9, 8), association(8, MOVED_FROM, 11, 1),
-        association(9, rf2.SAME_AS, 12, 1), association(10, POSSIBLY_EQUIVALENT, 12, 1),
-        association(11, rf2.SAME_AS, 12, 4, active=0)],
-}
+    "A": [association(1, rf2.SAME_AS, 2, 3), association(2, rf2.REPLACED_BY, 3, 4),
+          association(3, POSSIBLY_EQUIVALENT, 5, 1), association(4, POSSIBLY_EQUIVALENT, 5, 6),
+          association(5, rf2.SAME_AS, 6, 7), association(6, rf2.REPLACED_BY, 8, 9),
+          association(7, rf2.REPLACED_BY, 9, 8), association(8, MOVED_FROM, 11, 1),
+          association(9, rf2.SAME_AS, 12, 1), association(10, POSSIBLY_EQUIVALENT, 12, 1),
+          association(11, rf2.SAME_AS, 12, 4, active=0)]}
 NO_DAY = "the date isn't a day such as 20200630 or 2020-06-30"
 NO_CODE = "the code is no concept's SCTID"
 NOT_THERE = "the concept wasn't there yet on that date"

@@ -228,8 +228,7 @@ def test_damage(hub: Hub, store: Path) -> None:
     assert client.ask("GET C 1000004 20200131") == ["ERR 8 Damaged"]
     # No reply is lost behind one, or comes to another client.
     client.send(b"RECEIPT 1\nGET C 1000004 20200131\nRECEIPT 2\nSTATUS\n")
-    for wanted in ("OK 1 6 20200131", "ERR 8 Damaged", "OK 2 4 20210131",
-                   STATUS[0] + " Damaged"):
+    for wanted in ("OK 1 6 20200131", "ERR 8 Damaged", "OK 2 4 20210131", STATUS[0] + " Damaged"):
         assert client.read() == [wanted]
     assert hub.client().ask("RECEIPT 1") == ["OK 1 6 20200131"]
     assert hub.stop() == 1

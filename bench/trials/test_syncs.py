@@ -89,9 +89,8 @@ class Tracer:
             before = ["strace", "-f", "-y", "-xx", "-o", self.log, "-e", "trace=" + TRACED]
         else:
             around["LD_PRELOAD"] = str(self.library)
-        done = subprocess.run(
-            [*before, self.place.program, *words], input=given.encode(), stdout=subprocess.PIPE,
-            env=around, check=True, timeout=SECONDS)
+        done = subprocess.run([*before, self.place.program, *words], input=given.encode(),
+                              stdout=subprocess.PIPE, env=around, check=True, timeout=SECONDS)
         lines = self.log.read_text("utf-8", "replace").splitlines()
         parse = of_strace if self.is_strace else of_library
         return done.stdout.decode(), [call for call in map(parse, lines) if call]

@@ -142,10 +142,9 @@ class Machine:
         copies = str(self.place / "copies")
         served = [sys.executable, "-u", "-m", "http.server", "--bind", self.address, "--directory",
                   copies, str(COPIES_PORT)]
-        return {
-            "hub": hub_words(self.program, self.store, self.releases, *sockets),
-            "gateway": gateway_words(self.questions, "%s:%d" % (self.address, PORT)),
-            "copies": served}
+        return {"hub": hub_words(self.program, self.store, self.releases, *sockets),
+                "gateway": gateway_words(self.questions, "%s:%d" % (self.address, PORT)),
+                "copies": served}
 
     def start(self) -> None:
         """Starts what it does, and answers once it does it."""

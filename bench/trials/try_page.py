@@ -150,11 +150,9 @@ def lists(page: Page) -> None:
     page.browser.write(lines % (wrist, wrist))
     page.browser.press("Tab")
     page.browser.press("Tab")
-    page.go(
-        "a list", "3 records", "Right: 1. Wrong: 1. Not judged: 1.", "Synonym (en)",
-        "The code was inactive then", "<b>Nothing</b>", "isn\u2019t an SCTID")
-    page.is_so(
-        "the list stays", "document.getElementById('list').value.split(',')[0]", wrist)
+    page.go("a list", "3 records", "Right: 1. Wrong: 1. Not judged: 1.", "Synonym (en)",
+            "The code was inactive then", "<b>Nothing</b>", "isn\u2019t an SCTID")
+    page.is_so("the list stays", "document.getElementById('list').value.split(',')[0]", wrist)
     page.walk("a list")
 
 
@@ -198,9 +196,8 @@ def table(page: Page) -> None:
         if not {"table", "row", "rowheader", "columnheader", "cell"} <= roles:
             raise Wrong("at %d pixels no table: %s" % (width, sorted(roles)))
         count, shown = page_rules.asked(page.browser, "[allRows(), shownRows()]")
-        page.is_so(
-            "what differs", "document.querySelector('#only + label').textContent",
-            "Only what differs: %d of %d rows" % (shown, count))
+        page.is_so("what differs", "document.querySelector('#only + label').textContent",
+                   "Only what differs: %d of %d rows" % (shown, count))
         page.tab_to("only")
         page.browser.press(" ")
         page.is_so("all rows", "shownRows()", count)
@@ -292,9 +289,8 @@ def printed(page: Page) -> None:
             page.tab_to("only")
             page.browser.press(" ")
         on_paper(page, "a record")
-        page.is_so(
-            "on paper that rows are left out",
-            "document.querySelector('#only + label').checkVisibility()", not is_switched)
+        page.is_so("on paper that rows are left out",
+                   "document.querySelector('#only + label').checkVisibility()", not is_switched)
         page.browser.media()
 
 

@@ -43,8 +43,7 @@ SCRIPTS: list[tuple[str, ...]] = [
     ("trials/by_pytest.py", "package"),
     ("trials/try_first_look.py",),
     ("trials/try_proxy.py",),
-    ("trials/try_machines.py",),
-]
+    ("trials/try_machines.py",)]
 # The last line of a script that counts what it tried.
 COUNTED = re.compile(r"(\d+) passed, (\d+) failed(?:, (\d+) skipped)?$")
 # How much of what a script printed is told where it failed.

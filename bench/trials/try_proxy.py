@@ -212,8 +212,7 @@ def without_a_hub(site: Site) -> str:
     with Asking(site) as asking:
         same("the end of a hub", site.hubs[1].stop(), 0)
     asking.look()
-    same("whether its gateway was passed over", any(map(was_sent_again, site.log()[before:])),
-         True)
+    same("whether its gateway was passed over", any(map(was_sent_again, site.log()[before:])), True)
     same("the end of the other hub", site.hubs[0].stop(), 0)
     status, headers, _ = site.client().told("/health")
     same("without a hub", (status, "retry-after" in headers), (503, True))

@@ -122,13 +122,12 @@ def fill(maker: Maker) -> None:
 
 def metadata(maker: Maker) -> None:
     maker.concept("root", FIRST_DAY, "SNOMED CT Concept (SNOMED RT+CTV3)")
-    for name, text in (("isa", "Is a (attribute)"),
-                       ("module", "SNOMED CT core module (core metadata concept)"),
-                       ("site", "Finding site (attribute)"),
-                       ("form", "Associated morphology (attribute)"),
-                       ("ingredient", "Has active ingredient (attribute)"),
-                       ("strength", "Has strength value (attribute)"),
-                       ("unit", "Has unit text (attribute)")):
+    for name, text in (
+            ("isa", "Is a (attribute)"),
+            ("module", "SNOMED CT core module (core metadata concept)"),
+            ("site", "Finding site (attribute)"), ("form", "Associated morphology (attribute)"),
+            ("ingredient", "Has active ingredient (attribute)"),
+            ("strength", "Has strength value (attribute)"), ("unit", "Has unit text (attribute)")):
         maker.concept(name, FIRST_DAY, text)
 
 

@@ -23,7 +23,7 @@ RELEASES_IN_FORCE = (
 class TestLookup(Asked):
     def ask(self, code: str, **words: Any) -> tuple[int, Json]:
         code = self.codes.get(code, code)
-        return self.service.gateway.fhir(LOOKUP, system=SCT, code=code, **words)
+        return self.gateway.fhir(LOOKUP, system=SCT, code=code, **words)
 
     def test_then(self) -> None:
         status, said = self.ask("wrist", version=version("20180101"))
@@ -79,7 +79,7 @@ class TestLookup(Asked):
                             ("ConceptMap/$translate",
                              {"url": SCT + "?fhir_cm=900000000000527005", "system": SCT,
                               "code": code, "date": with_hyphens(day)})):
-            status, said = self.service.gateway.fhir(path, **words)
+            status, said = self.gateway.fhir(path, **words)
             assert (status, issue(said)) == (404, "not-found"), path
             why = "the store knows nothing of the day %s: its first is 20150131" % day
             assert said["issue"][0]["diagnostics"] == why
@@ -137,7 +137,7 @@ class TestLookup(Asked):
         assert self.ask("radius", version=version("20200731"))[0] == 200
 
     def test_no_code_and_no_system(self) -> None:
-        fhir = self.service.gateway.fhir
+        fhir = self.gateway.fhir
         assert issue(fhir(LOOKUP, system=SCT)[1]) == "required"
         assert issue(fhir(LOOKUP, code="138875005")[1]) == "required"
         assert fhir(LOOKUP, code="", system=SCT)[0] == 400
@@ -145,7 +145,7 @@ class TestLookup(Asked):
 
     def test_concrete_values_keep_their_digits(self) -> None:
         target = "/fhir/CodeSystem/$lookup?system=%s&code=%s" % (SCT, self.codes["drug"])
-        assert b'"valueDecimal":500.10}' in self.service.gateway.send("GET", target).body
+        assert b'"valueDecimal":500.10}' in self.gateway.send("GET", target).body
         said = self.ask("drug", version=version("20191231"))[1]
         assert properties(said)[self.codes["strength"]] == [500]
         assert properties(said)[self.codes["unit"]] == ["mg"]
@@ -244,9 +244,9 @@ class TestLookup(Asked):
         words = {"system": SCT, "code": self.codes["wrist"], "displayLanguage": languages}
         for prefer in ("", "handling=strict"):
             target = "/fhir/%s?%s" % (LOOKUP, urlencode(words))
-            answer = self.service.gateway.send("GET", target, headers={"Prefer": prefer})
+            answer = self.gateway.send("GET", target, headers={"Prefer": prefer})
             assert (answer.status, told(answer.json(), "display")) == (200, [display]), languages
-        said = self.service.gateway.fhir(
+        said = self.gateway.fhir(
             "ValueSet/$expand", url="%s?fhir_vs=isa/%s" % (SCT, self.codes["wrist"]),
             displayLanguage=languages)[1]["expansion"]
         assert [one["display"] for one in said["contains"]] == [display]
@@ -260,18 +260,18 @@ class TestLookup(Asked):
         """Which are passed over and told, or refused where the client wants that."""
         target = "/fhir/%s?system=%s&code=138875005&property=inactive&property=" % (LOOKUP, SCT)
         for name in ("ancestor", "normalform", "inactiv"):
-            answer = self.service.gateway.send("GET", target + name)
+            answer = self.gateway.send("GET", target + name)
             assert (answer.status, len(told(answer.json(), "warning"))) == (200, 1), name
             wish = {"Prefer": "handling=strict"}
-            assert self.service.gateway.send("GET", target + name, headers=wish).status == 400
+            assert self.gateway.send("GET", target + name, headers=wish).status == 400
         for name in ("*", "designation", "display", self.codes["site"]):
-            answer = self.service.gateway.send("GET", target + name)
+            answer = self.gateway.send("GET", target + name)
             assert told(answer.json(), "warning") == [], name
 
     def test_post_with_a_coding(self) -> None:
         coding = {"system": SCT, "code": self.codes["wrist"], "version": version("20180101")}
         posted = {"name": "coding", "valueCoding": coding}
-        status, said = self.service.gateway.posted(LOOKUP, posted)
+        status, said = self.gateway.posted(LOOKUP, posted)
         assert (status, told(said, "display")) == (200, ["Fracture of wrist (disorder)"])
 
     def test_version_beside_a_coding(self) -> None:
@@ -279,13 +279,13 @@ class TestLookup(Asked):
         for day, release, name in (
                 ("20180101", "20170731", "Fracture of wrist (disorder)"),
                 ("20190101", "20180731", "Fracture of wrist joint region (disorder)")):
-            said = self.service.gateway.posted(
+            said = self.gateway.posted(
                 LOOKUP, coding, {"name": "version", "valueString": version(day)})[1]
             assert (told(said, "version"), told(said, "display")) == ([version(release)], [name])
 
     def test_two_ways_to_name_the_code(self) -> None:
         coding = {"system": SCT, "code": self.codes["wrist"]}
-        status, said = self.service.gateway.posted(
+        status, said = self.gateway.posted(
             LOOKUP, {"name": "coding", "valueCoding": coding},
             {"name": "code", "valueCode": self.codes["limb"]}, {"name": "system", "valueUri": SCT})
         assert (status, issue(said)) == (400, "conflict")
@@ -299,10 +299,10 @@ class TestLookup(Asked):
         ({"system": "http://loinc.org", "code": "138875005"}, 404)))
     def test_bad_codings(self, coding: Any, status: int) -> None:
         part = {"name": "coding", "valueCoding": coding}
-        assert self.service.gateway.posted(LOOKUP, part)[0] == status, coding
+        assert self.gateway.posted(LOOKUP, part)[0] == status, coding
 
     def test_pin(self) -> None:
-        gateway, wrist = self.service.gateway, self.codes["wrist"]
+        gateway, wrist = self.gateway, self.codes["wrist"]
         said = gateway.fhir(LOOKUP, "/pin/1/fhir/", system=SCT, code=wrist)[1]
         assert told(said, "version") == [version("20190131")]
         assert gateway.fhir(LOOKUP, "/pin/0/fhir/", system=SCT, code=wrist)[0] == 404
@@ -313,9 +313,9 @@ class TestLookup(Asked):
     def test_answers_and_refusals_are_of_a_pin(self) -> None:
         for code in (self.codes["wrist"], "138875005", "999999"):
             target = "/fhir/CodeSystem/$lookup?system=%s&code=%s" % (SCT, code)
-            answer = self.service.gateway.send("GET", target)
+            answer = self.gateway.send("GET", target)
             assert answer.headers["x-sctd-pin"] == "3", code
-            again = self.service.gateway.send("GET", "/pin/3" + target)
+            again = self.gateway.send("GET", "/pin/3" + target)
             assert (again.status, again.body) == (answer.status, answer.body)
             assert again.headers["x-sctd-receipt"] == answer.headers["x-sctd-receipt"]
 

@@ -40,7 +40,7 @@ class Whole(Asked):
 
     def lookup(self, name: str, **words: Any) -> Json:
         code = self.codes[name]
-        status, said = self.service.gateway.fhir(LOOKUP, system=SCT, code=code, **words)
+        status, said = self.gateway.fhir(LOOKUP, system=SCT, code=code, **words)
         assert status == 200, said
         return said
 
@@ -50,7 +50,7 @@ class Whole(Asked):
 
     def refset(self, name: str, **words: Any) -> tuple[int, Json]:
         url = "%s?fhir_vs=refset/%s" % (SCT, self.codes[name])
-        return self.service.gateway.fhir(EXPAND, url=url, **words)
+        return self.gateway.fhir(EXPAND, url=url, **words)
 
     def expanded(self, name: str, **words: Any) -> Json:
         status, said = self.refset(name, **words)
@@ -107,13 +107,13 @@ class TestDisplays(Whole):
         "en-x-sctlang-90000000-00005090-07\n", "x-sctlang-90000000-00005090-07",
         "900000000000509007", ""))
     def test_wrong_tags(self, tag: str) -> None:
-        status, said = self.service.gateway.fhir(
+        status, said = self.gateway.fhir(
             LOOKUP, system=SCT, code=self.codes["wrist"], displayLanguage=tag)
         assert (status, issue(said)) == (400, "invalid"), tag
 
     def test_where_else_a_concept_is_shown(self) -> None:
         url = "%s?fhir_vs=isa/%s" % (SCT, self.codes["anaemia"])
-        fhir, code = self.service.gateway.fhir, self.codes["anaemia"]
+        fhir, code = self.gateway.fhir, self.codes["anaemia"]
         cases: list[tuple[dict[str, str], str]] = [({}, "Anaemia")]
         for words, display in [*cases, ({"displayLanguage": "en-US"}, "Anemia")]:
             said = fhir(EXPAND, url=url, **words)[1]["expansion"]["contains"]
@@ -123,12 +123,12 @@ class TestDisplays(Whole):
 
     def test_a_definition_is_no_name(self) -> None:
         words = {"url": SCT, "code": self.codes["wrist"], "display": demo.DEFINITION}
-        said = self.service.gateway.fhir("CodeSystem/$validate-code", **words)[1]
+        said = self.gateway.fhir("CodeSystem/$validate-code", **words)[1]
         assert told(said, "result") == [False]
-        found = self.service.gateway.fhir(EXPAND, url=SCT + "?fhir_vs", filter="a break of bones")
+        found = self.gateway.fhir(EXPAND, url=SCT + "?fhir_vs", filter="a break of bones")
         assert found[1]["expansion"]["total"] == 0
         assert self.gateway.send("GET", "/suggest?text=a+break").text == "[]"
-        assert "No term begins" in self.service.gateway.send("GET", "/?q=A+break").text
+        assert "No term begins" in self.gateway.send("GET", "/?q=A+break").text
 
 
 class TestTags:
@@ -195,11 +195,11 @@ class TestDesignations(Whole):
 
     def test_of_an_expansion(self) -> None:
         url = "%s?fhir_vs=isa/%s" % (SCT, self.codes["anaemia"])
-        said = self.service.gateway.fhir(EXPAND, url=url, includeDesignations="true")[1]
+        said = self.gateway.fhir(EXPAND, url=url, includeDesignations="true")[1]
         designations = said["expansion"]["contains"][0]["designation"]
         found = {one["value"]: one for one in designations}
-        assert [context(one) for one in found["Anaemia"]["extension"]] == [(
-            demo.GB, demo.PREFERRED, SYNONYM)]
+        assert [context(one) for one in found["Anaemia"]["extension"]] == [
+            (demo.GB, demo.PREFERRED, SYNONYM)]
         assert found["Anaemia"]["use"]["code"] == SYNONYM
         assert "extension" not in found["An\u00e4mie"]
 
@@ -247,7 +247,7 @@ class TestRefsets(Whole):
 
     def test_version_of_the_url(self) -> None:
         url = "%s?fhir_vs=refset/%s" % (version("20200131"), self.codes["set"])
-        said = self.service.gateway.fhir(EXPAND, url=url)[1]["expansion"]
+        said = self.gateway.fhir(EXPAND, url=url)[1]["expansion"]
         assert [one["code"] for one in said["contains"]] == self.named("limb")
 
     def test_entries(self) -> None:
@@ -284,21 +284,20 @@ class TestRefsets(Whole):
         assert self.expanded("left", **before)["total"] == 1
         # Before the first member there was none.
         url = "%s?fhir_vs=refset/%s" % (version("20150131"), demo.INDICATORS)
-        said = self.service.gateway.fhir(EXPAND, url=url)[1]
+        said = self.gateway.fhir(EXPAND, url=url)[1]
         assert said["expansion"]["total"] == 0
 
     def test_that_are_not_kept(self) -> None:
         for code, status, why in ((self.codes["never"], 422, "not-supported"),
                                   (self.codes["wrist"], 422, "not-supported"),
                                   (str(sctid(4711, "00")), 404, "not-found"),
-                                  ("1105008", 400, "invalid"),
-                                  ("", 400, "invalid")):
+                                  ("1105008", 400, "invalid"), ("", 400, "invalid")):
             url = "%s?fhir_vs=refset/%s" % (SCT, code)
             for path, words in ((EXPAND, {"url": url}),
                                 (EXPAND, {"url": url, "filter": "fracture"}),
                                 ("ValueSet/$validate-code",
                                  {"url": url, "system": SCT, "code": self.codes["wrist"]})):
-                got, said = self.service.gateway.fhir(path, **words)
+                got, said = self.gateway.fhir(path, **words)
                 assert (got, issue(said)) == (status, why), (path, code)
 
     def test_validate_code(self) -> None:
@@ -306,7 +305,7 @@ class TestRefsets(Whole):
         for name, day, valid in (("wrist", "20200130", True), ("wrist", "20200131", False),
                                  ("wrist", "20210131", True), ("carpal", "20210131", False),
                                  ("absent", "20220731", False)):
-            said = self.service.gateway.fhir("ValueSet/$validate-code", url=url, system=SCT,
+            said = self.gateway.fhir("ValueSet/$validate-code", url=url, system=SCT,
                                              code=self.codes[name], systemVersion=version(day))[1]
             assert told(said, "result") == [valid], (name, day)
             if name == "carpal":
@@ -316,14 +315,14 @@ class TestRefsets(Whole):
         for day, names in (("20220731", ("us", "gb", "indicators", "ctv3", "odd", "set")),
                            ("20180101", ("us", "gb", "ctv3", "odd", "set", "left"))):
             url = version(day) + "?fhir_vs=refset"
-            said = self.service.gateway.fhir(EXPAND, url=url)[1]["expansion"]
+            said = self.gateway.fhir(EXPAND, url=url)[1]["expansion"]
             found = [one["code"] for one in said["contains"]]
             assert (found, said["total"]) == (self.named(*names), len(names)), day
         for name, valid in (("set", True), ("never", False), ("wrist", False)):
-            said = self.service.gateway.fhir("ValueSet/$validate-code", url=SCT + "?fhir_vs=refset",
+            said = self.gateway.fhir("ValueSet/$validate-code", url=SCT + "?fhir_vs=refset",
                                              system=SCT, code=self.codes[name])[1]
             assert told(said, "result") == [valid], name
-        said = self.service.gateway.fhir(EXPAND, url=SCT + "?fhir_vs=refset", filter="wrists of")[1]
+        said = self.gateway.fhir(EXPAND, url=SCT + "?fhir_vs=refset", filter="wrists of")[1]
         assert said["expansion"]["contains"][0]["code"] == self.codes["set"]
 
 
@@ -331,7 +330,7 @@ class TestMaps(Whole):
     def ask(self, name: str, refset: str = demo.CTV3, **words: Any) -> tuple[int, Json]:
         url = "%s?fhir_cm=%s" % (SCT, refset)
         code = self.codes[name]
-        return self.service.gateway.fhir(TRANSLATE, url=url, system=SCT, code=code, **words)
+        return self.gateway.fhir(TRANSLATE, url=url, system=SCT, code=code, **words)
 
     @pytest.mark.parametrize("name, date, targets", (
         ("wrist", "2022-07-31", ["S23.."]), ("limb", "2019-01-30", ["X1"]),
@@ -379,11 +378,11 @@ class TestMaps(Whole):
 
 class TestCapabilities(Whole):
     def test_what_is_new(self) -> None:
-        said = self.service.gateway.fhir("metadata", mode="terminology")[1]
+        said = self.gateway.fhir("metadata", mode="terminology")[1]
         for one in said["codeSystem"][0]["version"]:
             assert one["language"] == ["en-GB", "en-US"]
             assert "inactivationIndicator" in one["property"]
-        said = self.service.gateway.fhir("metadata")[1]
+        said = self.gateway.fhir("metadata")[1]
         found = {one["type"]: one["operation"][0] for one in said["rest"][0]["resource"]}
         assert "fhir_vs=refset/CODE" in found["ValueSet"]["documentation"]
         assert "a simple map" in found["ConceptMap"]["documentation"]
@@ -393,7 +392,7 @@ class TestCapabilities(Whole):
 class TestPage(Whole):
     def page(self, name: str, **words: str) -> str:
         target = "/?" + urlencode({"q": self.codes[name], **words})
-        answer = self.service.gateway.send("GET", target)
+        answer = self.gateway.send("GET", target)
         assert answer.status == 200
         return answer.text
 

@@ -93,13 +93,9 @@ class TestCounted(Asked):
             _, imports, rows, segments, _ = hub.recv(1 << 16).split()
         with open(self.service.store, "rb") as file:
             size = file.seek(0, 2)
-        for name, value in (("sctd_pin", int(imports)),
-                            ("sctd_gateway_pin", int(imports)),
-                            ("sctd_rows", int(rows)),
-                            ("sctd_segments", int(segments)),
-                            ("sctd_bytes", size),
-                            ("sctd_damaged", 0),
-                            ("sctd_gateway_hub_up", 1),
+        for name, value in (("sctd_pin", int(imports)), ("sctd_gateway_pin", int(imports)),
+                            ("sctd_rows", int(rows)), ("sctd_segments", int(segments)),
+                            ("sctd_bytes", size), ("sctd_damaged", 0), ("sctd_gateway_hub_up", 1),
                             # 31 July 2022.
                             ("sctd_gateway_latest_release_timestamp_seconds", 1_659_225_600)):
             assert found[name, labels()] == value, name

@@ -48,7 +48,7 @@ FOREIGN = re.compile(r"<script(?! src=\"page.js\" defer>)|<img|</textarea><s|onf
 
 class TestPage(Asked):
     def page(self, base: str = "/", **words: str) -> tuple[int, str]:
-        answer = self.service.gateway.send("GET", base + "?" + urlencode(words))
+        answer = self.gateway.send("GET", base + "?" + urlencode(words))
         return answer.status, answer.text
 
     def test_record(self) -> None:
@@ -137,7 +137,7 @@ class TestPage(Asked):
         text = self.page(q=self.codes["radius"], date="1999-01-01", other="2020-07-30")[1]
         assert text.count(nothing) == 1 and "isn\u2019t in the store by <time" in text
         assert nothing in self.page(q="fracture", date="2015-01-30")[1]
-        assert self.service.gateway.send("GET", "/suggest?text=f&date=2015-01-30").text == "[]"
+        assert self.gateway.send("GET", "/suggest?text=f&date=2015-01-30").text == "[]"
 
     def test_the_address_that_stays(self) -> None:
         text = self.page(q=self.codes["wrist"], date="2018-01-01")[1]
@@ -170,7 +170,7 @@ class TestPage(Asked):
                  self.page(q='"><img src=x>', date="2018-01-01")[1], self.page(q="Hostile")[1],
                  self.page(q="1", date='"><script>')[1], self.page(q="<b>bold")[1],
                  self.page(q="{{content}} {content} {0.__class__}")[1],
-                 self.service.gateway.send("GET", "/<script>alert(1)</script>").text]
+                 self.gateway.send("GET", "/<script>alert(1)</script>").text]
         for text in texts:
             assert FOREIGN.findall(text) == []
             assert "\u202e" not in text
@@ -186,7 +186,7 @@ class TestPage(Asked):
                     q=limb, date="2025-01-01")[1])
 
     def test_a_refusal_tells_its_pin(self) -> None:
-        send = self.service.gateway.send
+        send = self.gateway.send
         for target in ("/?q=1&date=2018-02-31", "/suggest?text=", "/suggest?text=a&date=x"):
             answer = send("GET", target)
             assert (answer.status, answer.headers.get("x-sctd-pin")) == (400, "3"), target
@@ -300,29 +300,26 @@ class TestPage(Asked):
         assert 'value="7"' in self.page("/pin/99/", q="7")[1]
         text = self.page("/changes", concept="123", **{"from": "2018-02-31"})[1]
         assert 'value="123"' in text and 'id="concept"' in text
-        assert 'value=""' in self.service.gateway.send("GET", "/?q=%ff").text
+        assert 'value=""' in self.gateway.send("GET", "/?q=%ff").text
 
     def test_search_and_suggest(self) -> None:
         assert "5 terms begin" in self.page(q="FRACTURE", date="2021-06-01")[1]
         assert "No term begins" in self.page(q="nothing such")[1]
-        said = self.service.gateway.send("GET", "/suggest?text=fract&date=2021-06-01")
+        said = self.gateway.send("GET", "/suggest?text=fract&date=2021-06-01")
         found = {one["code"]: one["active"] for one in json.loads(said.body)}
         assert (found[self.codes["wrist"]], found[self.codes["limb"]]) == (False, True)
 
     def test_wrong_words(self) -> None:
-        for words, status in (({"q": "12345678"}, 200),
-                              ({"q": "1", "date": "2018-02-31"}, 400),
-                              ({"q": "x" * 5000}, 200),
-                              ({"q": "a\nIMPORT d1"}, 200),
-                              ({"q": "a\rb"}, 200),
-                              ({"q": "1105007", "date": "x"}, 400),
-                              ({"q": "1105007", "date": "20180101"}, 400),
-                              ({"q": "1105007", "dat": "2018-01-01"}, 400)):
+        for words, status in (
+                ({"q": "12345678"}, 200), ({"q": "1", "date": "2018-02-31"}, 400),
+                ({"q": "x" * 5000}, 200), ({"q": "a\nIMPORT d1"}, 200), ({"q": "a\rb"}, 200),
+                ({"q": "1105007", "date": "x"}, 400), ({"q": "1105007", "date": "20180101"}, 400),
+                ({"q": "1105007", "dat": "2018-01-01"}, 400)):
             assert self.page(**words)[0] == status, words
         for target in ("/?q=1&q=2", "/?q=%ff", "/suggest?text=", "/suggest?text=a%0ab",
                        "/suggest?text=a&date=x"):
-            assert self.service.gateway.send("GET", target).status == 400, target
-        assert self.service.gateway.send("GET", "/health").json()["pin"] == 3
+            assert self.gateway.send("GET", target).status == 400, target
+        assert self.gateway.send("GET", "/health").json()["pin"] == 3
 
     def test_labels_and_headings(self) -> None:
         text = self.page(q=self.codes["wrist"], date="2018-01-01")[1]

@@ -120,11 +120,10 @@ class TestRecords(Asked):
 
     def test_case_type_and_language_of_a_term(self) -> None:
         wrist = self.codes["wrist"]
-        for text, use in (("WRIST fracture", "Synonym (en)"),
-                          ("Handgelenksfraktur", "Synonym (de)"),
-                          ("fracture of wrist (disorder)", "Fully specified name (en)"),
-                          ("Wrist  fracture", ""),
-                          ("Broken wrist", "")):
+        for text, use in (
+                ("WRIST fracture", "Synonym (en)"), ("Handgelenksfraktur", "Synonym (de)"),
+                ("fracture of wrist (disorder)", "Fully specified name (en)"),
+                ("Wrist  fracture", ""), ("Broken wrist", "")):
             assert self.judged("%s,2018-01-01,%s" % (wrist, text))["term_then"] == use, text
 
     def test_lines_that_are_not_judged(self) -> None:
@@ -188,8 +187,8 @@ class TestRecords(Asked):
             lines = (lines[0], ("138875005", "2018-01-01", "1,25-x"))
         text = "\r\n".join(map(delimiter.join, lines))
         found = records_of(text)
-        assert [(one.code, one.day, one.term) for one in found] == [(
-            lines[1][0], "20180101", lines[1][2])]
+        assert [(one.code, one.day, one.term) for one in found] == [
+            (lines[1][0], "20180101", lines[1][2])]
 
     @pytest.mark.parametrize("text, found", (
         ("", []),

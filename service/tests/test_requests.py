@@ -172,10 +172,8 @@ class TestRequests(Asked):
         warnings = told(answer.json(), "warning")
         assert (answer.status, len(warnings)) == (200, 1)
         assert "_summary is passed over" in warnings[0]
-        for wish, status in (("handling=strict", 400),
-                             ('return=minimal; handling = "strict"', 400),
-                             ("handling=lenient", 200),
-                             ("handling=stricter", 200)):
+        for wish, status in (("handling=strict", 400), ('return=minimal; handling = "strict"', 400),
+                             ("handling=lenient", 200), ("handling=stricter", 200)):
             answer = self.gateway.send("GET", target, headers={"Prefer": wish})
             assert answer.status == status, wish
             assert status == 200 or issue(answer.json()) == "not-supported"
@@ -227,16 +225,12 @@ class TestRequests(Asked):
             assert (answer.status, answer.headers["allow"]) == (405, "GET, HEAD"), target
 
     def test_formats(self) -> None:
-        for kind, status in (("application/fhir+xml", 406),
-                             ("text/html", 406),
-                             ("*/*", 200),
-                             ("text/json", 200),
-                             ("text/html, application/fhir+json;q=0.9", 200),
-                             ("application/fhir+json; q=0", 406),
-                             ("text/html, */*;q=0.000", 406),
+        for kind, status in (("application/fhir+xml", 406), ("text/html", 406), ("*/*", 200),
+                             ("text/json", 200), ("text/html, application/fhir+json;q=0.9", 200),
+                             ("application/fhir+json; q=0", 406), ("text/html, */*;q=0.000", 406),
                              ("application/fhir+json;q=0.001", 200)):
-            assert (self.gateway.send(
-                        "GET", "/fhir/metadata", headers={"Accept": kind}).status == status)
+            answer = self.gateway.send("GET", "/fhir/metadata", headers={"Accept": kind})
+            assert answer.status == status, kind
         for kind, status in (
                 ("xml", 406), ("application/fhir+xml", 406), ("application/fhir+json", 200),
                 ("application/fhir json", 200), ("json", 200)):
@@ -284,11 +278,9 @@ class TestRequests(Asked):
             assert answer.status == status, body[:80]
 
     def test_kinds_of_bodies(self) -> None:
-        for kind, status in (("text/xml", 415),
-                             ("application/x-www-form-urlencoded", 415),
-                             ("", 415),
-                             ("application/json; charset=utf-8", 200),
-                             ("Application/FHIR+JSON", 200)):
+        for kind, status in (
+                ("text/xml", 415), ("application/x-www-form-urlencoded", 415), ("", 415),
+                ("application/json; charset=utf-8", 200), ("Application/FHIR+JSON", 200)):
             answer = self.gateway.send("POST", LOOKUP, PARAMETERS, {"Content-Type": kind})
             assert answer.status == status, kind
         packed = {"Content-Type": FHIR_JSON, "Content-Encoding": "gzip"}
@@ -373,9 +365,8 @@ class TestRequests(Asked):
         assert got.startswith(b"HTTP/1.1 413 ") and got.endswith(b"\r\n\r\n"), got
 
     def test_expect_100(self) -> None:
-        head = (
-            POST + b"Expect: 100-continue\r\nConnection: close\r\nContent-Length: %d\r\n\r\n" % len(
-                PARAMETERS))
+        end = b"Expect: 100-continue\r\nConnection: close\r\nContent-Length: %d\r\n\r\n"
+        head = POST + end % len(PARAMETERS)
         with self.gateway.connect() as connection:
             connection.sendall(head)
             assert connection.recv(1 << 16) == b"HTTP/1.1 100 Continue\r\n\r\n"

@@ -93,10 +93,9 @@ class TestHapi(Client):
     def test_what_is_supported(self, summary: str) -> None:
         """The first resource of a search by an address, if there is any."""
         isa = SCT + "?fhir_vs=isa/" + self.codes["limb"]
-        for kind, url, is_here in (("CodeSystem", SCT, True),
-                                   ("CodeSystem", LOINC, False),
-                                   ("ValueSet", isa, True),
-                                   ("ValueSet", "http://example.org/fhir/ValueSet/x", False)):
+        for kind, url, is_here in (
+                ("CodeSystem", SCT, True), ("CodeSystem", LOINC, False), ("ValueSet", isa, True),
+                ("ValueSet", "http://example.org/fhir/ValueSet/x", False)):
             asked = urlencode({"url": url, "_summary": summary})
             found = self.get("%s?%s" % (kind, asked)).get("entry", [])
             first = [(one["resource"]["resourceType"], one["resource"]["url"]) for one in found[:1]]
@@ -104,11 +103,10 @@ class TestHapi(Client):
 
     def test_a_code_and_its_display(self) -> None:
         files = self.snapshot()
-        for name, display, is_valid in (("limb", "", True),
-                                        ("limb", self.name_of("limb", files), True),
-                                        ("limb", "Fracture of upper limb (disorder)", False),
-                                        ("wrist", "Wrist fracture", True),
-                                        ("none", "", False)):
+        for name, display, is_valid in (
+                ("limb", "", True), ("limb", self.name_of("limb", files), True),
+                ("limb", "Fracture of upper limb (disorder)", False),
+                ("wrist", "Wrist fracture", True), ("none", "", False)):
             code = self.codes.get(name, "999")
             parts = [uri("url", SCT), text("code", code)]
             parts += [text("display", display)] if display else []
@@ -349,8 +347,7 @@ class TestPublisher(Client):
         along = self.sent_along("mixed", self.below("limb"), tests, inactive=inactive)
         mixed: Json = {"valueSet": [self.address("mixed")]}
         code = {"name": "coding", "valueCoding": {"system": LOINC, "code": "1-8"}}
-        for include, is_known in ((mixed, False),
-                                  ({**mixed, **tests}, False),
+        for include, is_known in ((mixed, False), ({**mixed, **tests}, False),
                                   ({**mixed, **self.below("injury")}, True)):
             guide, status = self.guide(include), 200 if is_known else 404
             said = self.post("/ValueSet/$validate-code", guide, code, along, status=status)
@@ -482,9 +479,7 @@ class TestSnowstorm(Client):
     def test_lookups(self) -> None:
         code = self.codes["wrist"]
         edition = SCT + "/900000000000207008"
-        for query, day in (("", LATEST),
-                           ("&_format=json", LATEST),
-                           ("&version=" + edition, LATEST),
+        for query, day in (("", LATEST), ("&_format=json", LATEST), ("&version=" + edition, LATEST),
                            ("&version=" + version("20190131"), "20190131")):
             said = self.get("CodeSystem/$lookup?system=%s&code=%s%s" % (SCT, code, query))
             files = self.snapshot(day)

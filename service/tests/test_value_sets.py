@@ -16,7 +16,7 @@ SECOND_DAYS = ("20200131", "20200731", "20210131")
 
 class TestExpand(Asked):
     def ask(self, what: str, **words: Any) -> tuple[int, Json]:
-        return self.service.gateway.fhir("ValueSet/$expand", url=SCT + "?fhir_vs" + what, **words)
+        return self.gateway.fhir("ValueSet/$expand", url=SCT + "?fhir_vs" + what, **words)
 
     def expanded(self, what: str = "", **words: Any) -> tuple[list[str], Json]:
         status, said = self.ask(what, **words)
@@ -37,7 +37,7 @@ class TestExpand(Asked):
 
     def test_isa_in_the_version_of_the_url(self) -> None:
         url = "%s?fhir_vs=isa/%s" % (version("20190131"), self.codes["limb"])
-        said = self.service.gateway.fhir("ValueSet/$expand", url=url)[1]["expansion"]
+        said = self.gateway.fhir("ValueSet/$expand", url=url)[1]["expansion"]
         assert {one["code"] for one in said["contains"]} == {
             self.codes["limb"], self.codes["wrist"]}
         assert {"name": "version", "valueUri": "%s|%s" % (SCT, version("20190131"))} in said[
@@ -97,7 +97,7 @@ class TestExpand(Asked):
 
     def test_again_at_the_pin(self) -> None:
         url = SCT + "?fhir_vs" + self.isa("limb")
-        answers = [self.service.gateway.fhir("ValueSet/$expand", base, url=url)[1]
+        answers = [self.gateway.fhir("ValueSet/$expand", base, url=url)[1]
                    for base in ("/fhir/", "/pin/3/fhir/")]
         for one in answers:
             del one["expansion"]["timestamp"]
@@ -127,7 +127,7 @@ class TestExpand(Asked):
         for what, words, status in cases:
             got, said = self.ask(what, **words)
             assert (got, said["resourceType"]) == (status, "OperationOutcome"), (what, words)
-        fhir = self.service.gateway.fhir
+        fhir = self.gateway.fhir
         assert fhir("ValueSet/$expand", url="http://hl7.org/fhir/ValueSet/x")[0] == 404
         assert fhir("ValueSet/$expand", url="http://snomed.info/sctx?fhir_vs")[0] == 404
         assert fhir("ValueSet/$expand")[0] == 400
@@ -140,9 +140,8 @@ class TestExpand(Asked):
 
 class TestTranslate(Asked):
     def ask(self, refset: str, code: str = "wrist", **words: Any) -> tuple[int, Json]:
-        return self.service.gateway.fhir(
-            "ConceptMap/$translate", url="%s?fhir_cm=%s" % (SCT, refset), system=SCT,
-            code=self.codes[code], **words)
+        return self.gateway.fhir("ConceptMap/$translate", url="%s?fhir_cm=%s" % (SCT, refset),
+                                 system=SCT, code=self.codes[code], **words)
 
     def test_replaced_by(self) -> None:
         found = parts_of(self.ask("900000000000526001")[1], "match")
@@ -157,8 +156,8 @@ class TestTranslate(Asked):
 
     def test_same_as(self) -> None:
         found = parts_of(self.ask("900000000000527005", "radius")[1], "match")
-        assert [(one["equivalence"], one["concept"]["code"]) for one in found] == [(
-            "equal", self.codes["radius2"])]
+        assert [(one["equivalence"], one["concept"]["code"]) for one in found] == [
+            ("equal", self.codes["radius2"])]
 
     @pytest.mark.parametrize("refset, target, equivalence", (
         (demo.WAS_A, "injury", "wider"),
@@ -190,25 +189,25 @@ class TestTranslate(Asked):
         assert self.ask("900000000000207008")[0] == 404
         assert self.ask("900000000000526001", targetsystem="http://loinc.org")[0] == 404
         assert self.ask("900000000000526001", date="2010-01-01")[0] == 404
-        status, _ = self.service.gateway.fhir(
+        status, _ = self.gateway.fhir(
             "ConceptMap/$translate", url=SCT, system=SCT, code="138875005")
         assert status == 404
 
 
 class TestMetadata(Asked):
     def test_capability_statement(self) -> None:
-        said = self.service.gateway.fhir("metadata")[1]
+        said = self.gateway.fhir("metadata")[1]
         assert (said["resourceType"], said["fhirVersion"]) == ("CapabilityStatement", "4.0.1")
         offered = {
             "%s/$%s" % (resource["type"], operation["name"])
             for resource in said["rest"][0]["resource"] for operation in resource["operation"]}
         for path in offered:
-            status, answer = self.service.gateway.fhir(path)
+            status, answer = self.gateway.fhir(path)
             assert (status, issue(answer)) == (400, "required"), path
         assert len(offered) == 6
 
     def test_terminology_capabilities(self) -> None:
-        said = self.service.gateway.fhir("metadata", mode="terminology")[1]
+        said = self.gateway.fhir("metadata", mode="terminology")[1]
         assert said["resourceType"] == "TerminologyCapabilities"
         versions = said["codeSystem"][0]["version"]
         assert [one["code"] for one in versions] == [
@@ -219,17 +218,17 @@ class TestMetadata(Asked):
         assert said["validateCode"] == {"translations": True}
         # Neither $closure nor a search of value sets by a code is answered.
         assert said.keys() & {"closure", "codeSearch"} == set()
-        said = self.service.gateway.fhir("metadata", base="/pin/2/fhir/", mode="terminology")[1]
+        said = self.gateway.fhir("metadata", base="/pin/2/fhir/", mode="terminology")[1]
         assert [one["code"] for one in said["codeSystem"][0]["version"]] == [
             version(day) for day in (*FIRST_DAYS, *SECOND_DAYS)]
 
     def test_modes(self) -> None:
-        fhir = self.service.gateway.fhir
+        fhir = self.gateway.fhir
         assert fhir("metadata", mode="full")[0] == 200
         assert fhir("metadata", mode="x")[0] == 400
 
     def test_code_system(self) -> None:
-        fhir = self.service.gateway.fhir
+        fhir = self.gateway.fhir
         days = (*FIRST_DAYS, *SECOND_DAYS, "20220731")
         searches: tuple[dict[str, str], ...] = ({"url": SCT}, {"system": SCT}, {})
         for words in searches:
