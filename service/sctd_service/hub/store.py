@@ -87,8 +87,6 @@ class Store:
             try:
                 reply = await self.asked(session, line, user)
                 if not reply.startswith(REFUSED):
-                    # (A merge needn't wait for the list.)
-                    self.may_merge.set()
                     await self.listed(reply, name, await digest, user)
                 return reply
             finally:
@@ -162,7 +160,9 @@ class Store:
         """Merges between the clients' lines, whenever more segments stand than are wanted."""
         while True:
             await self.may_merge.wait()
-            self.may_merge.clear()
+            # (What has waited for an import, as a copy, comes before the merge that it calls for.)
+            async with self.imports_lock:
+                self.may_merge.clear()
             try:
                 while await self.merges_two(self.merge_above):
                     pass
