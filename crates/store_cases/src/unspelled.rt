@@ -11,9 +11,9 @@ use std::alloc::Global;
 use test_support::Example;
 
 /// The question with the limit 0, or about concepts.
-fn unspelled(question: RowQuestion<'_>) -> Result<RowQuestion<'_>, NoAnswer> {
+fn unspelled<'a>(question: &RowQuestion<'a>) -> Result<RowQuestion<'a>, NoAnswer> {
     let (kind, limit) = (Kind::Concept, 0);
-    match question {
+    match *question {
         RowQuestion::Page {
             kind,
             date,
@@ -72,7 +72,7 @@ pub fn count_unspelled(alloc: Global, store: &mut Example, line: &str) -> Answer
     else {
         return Err(NoAnswer::NoQuestion);
     };
-    match store.count(&unspelled(question)?, number) {
+    match store.count(&unspelled(&question)?, number) {
         Some(Ok(count)) => Ok(format!(in alloc; "{count} rows")?),
         Some(Err(refusal)) => spell_refusal(alloc, refusal),
         None => Err(NoAnswer::NoQuestion),
