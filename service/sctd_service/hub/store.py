@@ -87,8 +87,6 @@ class Store:
             try:
                 reply = await self.asked(session, line, user)
                 if not reply.startswith(REFUSED):
-                    # (A merge needn't wait for the list.)
-                    self.may_merge.set()
                     await self.listed(reply, name, await digest, user)
                 return reply
             finally:
