@@ -32,6 +32,15 @@ HOLDING = HANDING_ON % ("""
             time.sleep(0.01)""", "")
 
 
+# Where the hub begins with a kind of rows, and what lets it wait before the last one until the
+# program was told to publish a merge.
+KIND = "            last = FIRST\n"
+WAITING = """\
+            while kind == MEMBERS and b"PUBLISH" not in open(%r, "rb").read():
+                await asyncio.sleep(0.01)
+"""
+
+
 def paged(place: Place, rows: int) -> Place:
     """The same with a hub that asks for so many rows at a time."""
     return place.changed("digests.py", f"PAGE_ROWS = {PAGE_ROWS}", f"PAGE_ROWS = {rows}")
@@ -49,6 +58,7 @@ class Held:
 
     def __init__(self, place: Place, page: int) -> None:
         self.place = paged(place, 1).wrapped(HOLDING % page)
+        self.path = self.place.path("lines")
 
     def wait(self) -> None:
         until("the page is asked for", self.place.path("held").exists)
@@ -58,7 +68,7 @@ class Held:
 
     def lines(self) -> list[str]:
         """The lines that have come to the program."""
-        return self.place.path("lines").read_text("utf-8").splitlines()
+        return self.path.read_text("utf-8").splitlines()
 
 
 @pytest.mark.parametrize("layout, rows", ((2, 7), (3, 7), (3, PAGE_ROWS)))
@@ -107,7 +117,8 @@ def test_import_between(place: Place, store: Path, pin: str) -> None:
     """An import and a merge between two pages don't change the digest, which is that of the number
     of imports when it was asked for, or of the session's pin."""
     held = Held(place, 2)
-    with Hub(held.place, store, "--merge-above", "1", asks=True) as hub:
+    waiting = held.place.changed("digests.py", KIND, KIND + WAITING % str(held.path))
+    with Hub(waiting, store, "--merge-above", "1", asks=True) as hub:
         client, owner = hub.asker(), hub.client()
         if pin:
             assert client.ask(pin)[0].startswith("OK")

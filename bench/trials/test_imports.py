@@ -478,6 +478,37 @@ def test_full_disk(place: Place, small_disk: Path) -> None:
             night_line(number, release) for number, release in enumerate(made[:3], 1)]
 
 
+def test_disk_without_a_right_to_write(place: Place, small_disk: Path) -> None:
+    """The same where the list's disk may only be read."""
+    made, link = nights(place, 3), small_disk / "store"
+    place.make_store().rename(place.path("own"))
+    link.symlink_to(place.path("own"))
+
+    def mount_again(how: str) -> None:
+        subprocess.run(["mount", "-o", f"remount,{how}", str(small_disk)], check=True)
+
+    with Hub(place, link, releases=place.releases) as hub:
+        client = hub.client()
+        client.ask("IMPORT n1")
+        mount_again("ro")
+        assert client.ask("IMPORT n2") == ["OK 2 1 0"]
+        assert client.ask("STATUS") == ["OK 2 2 2 - Unlisted"]
+        assert told(hub) == ["1 lines aren't written: Read-only file system"]
+        mount_again("rw")
+        # As the hub ends, what is missing is written.
+        assert hub.stop() == 0
+    assert listed(link) == [night_line(number, one) for number, one in enumerate(made[:2], 1)]
+    mount_again("ro")
+    with Hub(place, link, releases=place.releases) as hub:
+        assert told(hub) == []
+        assert hub.client().ask("IMPORT n3") == ["OK 3 1 0"]
+        hub.stop()
+        assert told(hub) == ["1 lines aren't written: Read-only file system"] * 2
+    mount_again("rw")
+    with Hub(place, link) as hub:
+        assert told(hub) == ["it has no line for 1 of 3 imports, the first of which is 3"]
+
+
 def test_copies_have_it(place: Place) -> None:
     """A copy has the list of the imports that it has; without it there is no copy."""
     store, made = place.make_store(), nights(place, 3)

@@ -160,9 +160,7 @@ class Store:
         """Merges between the clients' lines, whenever more segments stand than are wanted."""
         while True:
             await self.may_merge.wait()
-            # (What has waited for an import, as a copy, comes before the merge that it calls for.)
-            async with self.imports_lock:
-                self.may_merge.clear()
+            self.may_merge.clear()
             try:
                 while await self.merges_two(self.merge_above):
                     pass
