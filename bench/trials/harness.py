@@ -299,17 +299,40 @@ class Server:
         return self
 
     def __exit__(self, *_: object) -> None:
+        if self.process.stdout and not self.process.stdout.closed:
+            self.kill()
+
+    def kill(self) -> None:
+        """Ends it at once. What it had written is left unread."""
         assert self.process.stdin and self.process.stdout
         self.process.kill()
-        self.process.wait()
+        self.unread += self.process.stdout.read()
+        with contextlib.suppress(BrokenPipeError):
+            self.process.stdin.close()
         self.process.stdout.close()
+        self.process.wait()
+
+    def send(self, data: bytes) -> None:
+        assert self.process.stdin
+        with contextlib.suppress(BrokenPipeError):  # What it said before it ended is read next.
+            self.process.stdin.write(data)
+            self.process.stdin.flush()
+
+    def read(self, wanted: int, until: float, end: bytes = b"\xff") -> None:
+        """Reads up to so many bytes, or one that ends it (0xff is in no reply), until a moment."""
+        assert self.process.stdout
+        while len(self.unread) < wanted and end not in self.unread:
+            left = until - time.monotonic()
+            if left <= 0 or not select.select([self.process.stdout], [], [], left)[0]:
+                return
+            part = os.read(self.process.stdout.fileno(), PIPE_SIZE)
+            if not part:
+                return
+            self.unread += part
 
     def ask(self, line: str) -> list[str]:
         """The lines of the reply to a line of session 0."""
-        assert self.process.stdin
-        with contextlib.suppress(BrokenPipeError):  # What it said before it ended is read next.
-            self.process.stdin.write(f"0 {line}\n".encode())
-            self.process.stdin.flush()
+        self.send(f"0 {line}\n".encode())
         reply = [self.line(line)]
         while reply[-1].split(" ")[0] not in LAST_WORDS:
             reply.append(self.line(line))
@@ -317,14 +340,9 @@ class Server:
 
     def line(self, asked: str) -> str:
         """The next line of a reply."""
-        assert self.process.stdout
-        while b"\n" not in self.unread:
-            if not select.select([self.process.stdout], [], [], SECONDS)[0]:
-                raise Wrong(f"no reply to {asked!r} within {SECONDS} seconds")
-            part = os.read(self.process.stdout.fileno(), PIPE_SIZE)
-            if not part:
-                raise Wrong(f"{asked!r} ends the server")
-            self.unread += part
+        self.read(sys.maxsize, time.monotonic() + SECONDS, b"\n")
+        if b"\n" not in self.unread:
+            raise Wrong(f"{asked!r} ends the server, or isn't answered within {SECONDS} seconds")
         line, _, self.unread = self.unread.partition(b"\n")
         return line.decode()
 
@@ -334,6 +352,7 @@ class Server:
         self.process.stdin.close()
         status = self.process.wait(SECONDS)
         self.unread += self.process.stdout.read()
+        self.process.stdout.close()
         return status
 
     def told(self) -> str:

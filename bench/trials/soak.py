@@ -10,11 +10,9 @@ times SECONDS, and its store is copied in layout 3 after SECONDS. The same SEED 
 up to the first kill.
 """
 
-import contextlib
 import os
 import random
 import re
-import select
 import shutil
 import subprocess
 import sys
@@ -25,7 +23,7 @@ from collections.abc import Callable, Sequence
 from pathlib import Path
 from typing import Optional
 
-from harness import NOT_RUN, Place, Wrong, parser_of, same, tell
+from harness import NOT_RUN, Place, Server, Wrong, parser_of, same, tell
 from soak_model import CONCEPT, DESTINATION, KINDS, REFERENCED, REFSET, SUBJECTS, TARGET, TYPE
 from soak_model import Columns, Fault, File, Model, State, publications
 import make_release as rf2  # harness.py looks for it.
@@ -48,7 +46,6 @@ SECONDS = 60
 # How many seconds it runs where none are given, and up to how many times as long where something
 # wasn't tried by then.
 RUN_SECONDS, TIMES_LONGER = 60, 4
-PIPE_SIZE = 1 << 16
 # Where the layouts stand in the two directories of a store, and layout 1.
 LAYOUTS_AT = (4111, 12303)
 LAYOUT_ONE = b"1"
@@ -258,53 +255,6 @@ class Releases:
         return self.chance.choice(self.chance.choice(found)) if found else None
 
 
-class Program:
-    """The program, serving a file."""
-
-    def __init__(self, words: list[str]) -> None:
-        self.process = subprocess.Popen(
-            words, stdin=subprocess.PIPE, stdout=subprocess.PIPE, stderr=subprocess.DEVNULL)
-        assert self.process.stdin and self.process.stdout
-        self.input, self.output = self.process.stdin, self.process.stdout
-        self.came = b""
-
-    def send(self, data: bytes) -> None:
-        with contextlib.suppress(BrokenPipeError):
-            self.input.write(data)
-            self.input.flush()
-
-    def read(self, wanted: int, until: float, end: bytes = b"\xff") -> None:
-        """Reads up to so many bytes, or one that ends it (0xff is in no reply), until a moment."""
-        out = self.output.fileno()
-        while len(self.came) < wanted and end not in self.came:
-            left = until - time.monotonic()
-            if left <= 0 or not select.select([out], [], [], left)[0]:
-                return
-            piece = os.read(out, PIPE_SIZE)
-            if not piece:
-                return
-            self.came += piece
-
-    def kill(self) -> None:
-        self.process.kill()
-        self.came += self.output.read()
-        with contextlib.suppress(BrokenPipeError):
-            self.input.close()
-        self.output.close()
-        self.process.wait()
-
-    def end(self) -> tuple[int, bytes]:
-        """Ends the input, and gives the status and what came behind the last reply."""
-        self.input.close()
-        self.read(sys.maxsize, time.monotonic() + SECONDS)
-        try:
-            status = self.process.wait(timeout=SECONDS)
-        except subprocess.TimeoutExpired:
-            raise Wrong("the program doesn't end behind the last line") from None
-        self.output.close()
-        return status, self.came
-
-
 def fields(line: str) -> Columns:
     """The columns of a row in a reply."""
     return line.removeprefix("ROW ").split("\t")
@@ -314,13 +264,12 @@ class Soak:
     """One run."""
 
     def __init__(self, program: str, seed: int, folder: str) -> None:
-        self.program, self.folder, self.seed = program, folder, seed
-        self.place = Place(Path(program), Path(folder))
+        self.seed, self.place = seed, Place(Path(program), Path(folder))
         self.chance, self.kind = random.Random(seed), "C"
         self.releases = Releases(self.chance, os.path.join(folder, "releases"))
         self.model = Model(self.releases.files, keeps_all=self.is_of_layout_three())
         self.store = os.path.join(folder, "store")
-        self.serving: Optional[Program] = None
+        self.serving: Optional[Server] = None
         self.took = 0.05
         self.counts = dict.fromkeys([*COUNTED, *ANSWERED], 0)
 
@@ -329,12 +278,11 @@ class Soak:
         return self.seed % 3 == 2
 
     def start(self) -> None:
-        words = [self.program, "serve", "--store", self.store, "--releases", self.releases.folder]
         self.counts["openings"] += 1
-        self.serving = Program(words)
+        self.serving = Server(self.place, self.store, Path(self.releases.folder))
 
     @property
-    def served(self) -> Program:
+    def served(self) -> Server:
         """The program, once it was started."""
         assert self.serving is not None
         return self.serving
@@ -461,7 +409,7 @@ class Soak:
         wanted = b"".join(replies)
         self.served.send("".join(line + "\n" for line in lines).encode())
         self.served.read(len(wanted), begun + SECONDS)
-        came, self.served.came = self.served.came, b""
+        came, self.served.unread = self.served.unread, b""
         self.compare(came, replies, lines, all_of_it=True)
         self.took = 0.9 * self.took + 0.1 * (time.monotonic() - begun)
 
@@ -492,7 +440,7 @@ class Soak:
         self.served.read(wanted, time.monotonic() + self.chance.random() * 1.5 * self.took)
         self.served.kill()
         self.counts["kills_in_batches"] += 1
-        answered = self.compare(self.served.came, replies, lines, all_of_it=False)
+        answered = self.compare(self.served.unread, replies, lines, all_of_it=False)
         self.start_again(states, answered)
 
     def start_again(self, states: Sequence[State], answered: int) -> None:
@@ -505,7 +453,7 @@ class Soak:
         self.start()
         self.served.send(b"0 STATUS\n")
         self.served.read(sys.maxsize, time.monotonic() + SECONDS, b"\n")
-        came, self.served.came = self.served.came.decode(errors="replace"), b""
+        came, self.served.unread = self.served.unread.decode(errors="replace"), b""
         if not came:
             raise Wrong("after a kill: no reply to STATUS, with %d lines answered" % answered)
         said = [state.reopened().status() + "\n" for state in states]
@@ -626,7 +574,7 @@ class Soak:
                 self.counts["trims"] += lines.count("0 TRIM")
         self.check("0 UNPIN")
         self.everything()
-        same("the end", self.served.end(), (0, b""))
+        same("the end", (self.served.end(), self.served.unread), (0, b""))
 
     def make_layout_one(self) -> None:
         """Makes of the new store one of layout 1."""
@@ -639,13 +587,14 @@ class Soak:
     def copy_in_layout_three(self) -> None:
         """Between two servers a copy in layout 3 takes the place of the store, perhaps after a copy
         that was killed."""
-        same("the end before a copy", self.served.end(), (0, b""))
+        same("the end before a copy", (self.served.end(), self.served.unread), (0, b""))
         made = self.store + ".copy"
         words = ["copy", "--store", self.store, "--to", made, "--layout", "3"]
         if self.chance.random() < 0.5:
-            cut = Program([self.program] + words)
-            time.sleep(self.chance.random() * 0.02)
-            cut.kill()
+            with subprocess.Popen([self.place.program, *words], stdout=subprocess.DEVNULL,
+                                  stderr=subprocess.DEVNULL) as cut:
+                time.sleep(self.chance.random() * 0.02)
+                cut.kill()
             self.counts["copies_cut"] += 1
             Path(made).unlink(missing_ok=True)
         same("a copy", self.place.done(*words), "OK")
@@ -709,8 +658,8 @@ def main() -> int:
     folder = asked.folder or tempfile.mkdtemp(prefix="sctd-soak-")
     soak = Soak(str(asked.program), asked.seed, folder)
     status = tell(lambda: soak.run(asked.seconds))
-    if soak.serving is not None and soak.serving.process.poll() is None:
-        soak.serving.process.kill()
+    if soak.serving is not None:
+        soak.serving.__exit__()
     if status:
         print("the files are in %s" % folder)
         return status
