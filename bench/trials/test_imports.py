@@ -139,12 +139,11 @@ def waiting(place: Place, file: str, before: str, go_on: Path) -> Place:
 
 
 @pytest.mark.parametrize("before", (
-    "                digest.update(part)\n", "            os.fsync(number)\n            sync_folder"))
+    "                digest.update(part)\n", "            os.fsync(number)\n"))
 def test_nobody_else_waits(place: Place, before: str) -> None:
     """An import isn't answered before its line is on the disk, nor before the digest is computed
     that is in it, and others are answered meanwhile."""
     go_on, store = place.path("go on"), place.make_store()
-    before = before.removesuffix("            sync_folder")
     slow = waiting(place, "imports.py", before, go_on)
     with Hub(slow, store, asks=True) as hub:
         client, other, watching = hub.client(), hub.asker(), hub.asker()
@@ -400,7 +399,8 @@ def test_list_of_another_store(place: Place) -> None:
             "2 of its lines have another number of new rows than the store, the first of them for "
             "import 1: they don't count",
             "it has no line for 2 of 3 imports, the first of which is 1"]
-        assert rows(hub.client()) == ["1" + NOTHING, "2" + NOTHING, line_of(3, RELEASES / "r3", 2, 1)]
+        assert rows(hub.client()) == [
+            "1" + NOTHING, "2" + NOTHING, line_of(3, RELEASES / "r3", 2, 1)]
 
 
 # A line of a list that counts for nothing.

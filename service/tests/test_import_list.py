@@ -209,8 +209,8 @@ class TestKnown:
             b"ERR hub NoImport the day 2020-01-30 is before the first import, which was made at "
             b"2020-01-31T09:00:00Z\n"
         )
-        for line in (b"KNOWN", b"KNOWN ", b"KNOWN 2020-01-31", b"KNOWN 20200231", b"KNOWN 202001310"):
-            assert found.known_told(line, 1) == b"ERR 43 Arguments\n", line
+        for day in (b"", b" ", b" 2020-01-31", b" 20200231", b" 202001310", b"  20200131"):
+            assert found.known_told(b"KNOWN" + day, 1) == b"ERR 43 Arguments\n", day
 
 
 class TestNames:

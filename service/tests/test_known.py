@@ -118,7 +118,9 @@ class TestKnown(Asked):
         status, said = self.gateway.fhir(LOOKUP, known="2021-02-14", **words)
         assert (status, issue(said)) == (404, "not-found")
 
-    @pytest.mark.parametrize("known", ("", "2020", "2020-02-30", "20200101", "x", "2020-01-01T00:00"))
+    @pytest.mark.parametrize(
+        "known", ("", "2020", "2020-02-30", "20200101", "x", "2020-01-01T00:00")
+    )
     def test_days_that_are_none(self, known: str) -> None:
         status, said = self.gateway.fhir(LOOKUP, known=known, **OPERATIONS[0][1])
         assert (status, issue(said)) == (400, "invalid")
@@ -157,8 +159,8 @@ class TestKnown(Asked):
         assert second["response"]["status"] == "400 Bad Request"
 
     def test_caches(self) -> None:
-        """An answer of a day's knowledge is never kept for good: the day may not be over, and a list
-        may be restored."""
+        """An answer of a day's knowledge is never kept for good: the day may not be over, and a
+        list may be restored."""
         today = time.strftime("%Y-%m-%d", time.gmtime())
         for day in ("2020-10-15", today):
             target = "/fhir/%s?%s" % (LOOKUP, urlencode(dict(OPERATIONS[0][1], known=day)))

@@ -77,8 +77,8 @@ def framed(place: str, form: Mapping[str, str], shown: Shown, view: View | None)
 
 def as_was_known(view: View, known: Known, content: Markup) -> Markup:
     """What is shown of a day's knowledge, whose links lead to what was known then."""
-    said = tag("p", "As was known on ", time(known.day), ": import %d was the last one by the end "
-               "of that day (UTC), made at %s." % (known.pin, known.time), class_="known")
+    said = tag("p", "As it was known on ", time(known.day), ": import %d was the last one by the "
+               "end of that day (UTC), made at %s." % (known.pin, known.time), class_="known")
     pinned = LINK.sub(lambda link: 'href="%s' % for_good(view, link[1]), content)
     return joined(said, Markup(pinned))
 
