@@ -8,9 +8,9 @@ the number of all. PROMISES has the same three numbers. Where an earlier run on 
 sctd none of these lines is printed, and there is nothing to compare: this is said.
 """
 
+import argparse
 import re
 import sys
-from collections.abc import Sequence
 from pathlib import Path
 from typing import NamedTuple
 
@@ -66,11 +66,10 @@ def fault_of(output: str, document: str) -> str | None:
     return None
 
 
-def main(words: Sequence[str]) -> int:
-    if len(words) != 1:
-        print((__doc__ or "").strip(), file=sys.stderr)
-        return 2
-    output = Path(words[0]).read_text("utf-8")
+def main() -> int:
+    parser = argparse.ArgumentParser(description=(__doc__ or "").split("\n", maxsplit=1)[0])
+    parser.add_argument("file", type=Path, help="what `rt ci` printed")
+    output = parser.parse_args().file.read_text("utf-8")
     built = printed(output)
     fault = fault_of(output, (TOP / DOCUMENT).read_text("utf-8"))
     agreed = (f"axioms as {DOCUMENT} has them: {built}" if built
@@ -80,4 +79,4 @@ def main(words: Sequence[str]) -> int:
 
 
 if __name__ == "__main__":
-    sys.exit(main(sys.argv[1:]))
+    sys.exit(main())

@@ -6,11 +6,12 @@ commands that print rows of a table. A number of edits, tests, cases in files or
 in a document without being in figures.txt is an error, but for the rows of dated measurements.
 """
 
+import argparse
 import os
 import re
 import subprocess
 import sys
-from collections.abc import Iterator, Sequence
+from collections.abc import Iterator
 from pathlib import Path
 from typing import NamedTuple
 
@@ -124,10 +125,10 @@ def checked_table(table: Table, text: str, wrong: list[str]) -> str:
     return text
 
 
-def main(words: Sequence[str]) -> int:
-    if words not in ([], ["--renew"]):
-        print((__doc__ or "").strip(), file=sys.stderr)
-        return 2
+def main() -> int:
+    parser = argparse.ArgumentParser(description=(__doc__ or "").split("\n", maxsplit=1)[0])
+    parser.add_argument("--renew", action="store_true", help="write them into the documents")
+    asked = parser.parse_args()
     known: dict[str, str | None] = {}
     wrong: list[str] = []
     for name in map(name_of, documents()):
@@ -138,15 +139,13 @@ def main(words: Sequence[str]) -> int:
         for table in TABLES:
             if table.document == name:
                 renewed = checked_table(table, renewed, wrong)
-        if words and renewed != text:
+        if asked.renew and renewed != text:
             with open(path, "w", encoding="utf-8", newline="") as file:
                 file.write(renewed)
-    for sentence in wrong:
-        print(sentence, file=sys.stderr)
-    print("%d figures and %d tables, %d not so" % (len(FIGURES), len(TABLES), len(wrong)),
-          file=sys.stderr)
+    print(*wrong, "%d figures and %d tables, %d not so" % (len(FIGURES), len(TABLES), len(wrong)),
+          sep="\n", file=sys.stderr)
     return 1 if wrong else 0
 
 
 if __name__ == "__main__":
-    sys.exit(main(sys.argv[1:]))
+    sys.exit(main())

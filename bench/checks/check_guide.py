@@ -20,7 +20,8 @@ import sys
 from collections.abc import Iterator, Sequence
 
 ROOT = os.path.dirname(os.path.dirname(os.path.dirname(os.path.abspath(__file__))))
-sys.path += [os.path.join(ROOT, "packaging"), os.path.join(ROOT, "bench", "trials")]
+sys.path.append(os.path.join(ROOT, "bench", "trials"))
+from harness import parser_of  # noqa: E402
 from needs import SYSTEM_PYTHON, has_modules  # noqa: E402
 from transcripts import SECONDS, Given, Place, differences, place_for, text_of  # noqa: E402
 
@@ -87,11 +88,11 @@ def tell(page: str, example: Example, printed: str) -> None:
         print(line)
 
 
-def main(words: Sequence[str]) -> int:
-    if not words:
-        print((__doc__ or "").strip(), file=sys.stderr)
-        return 2
-    program, pages = os.path.abspath(words[0]), words[1:] or PAGES
+def main() -> int:
+    parser = parser_of(__doc__)
+    parser.add_argument("pages", nargs="*", metavar="PAGE", default=PAGES)
+    asked = parser.parse_args()
+    pages: Sequence[str] = asked.pages
     has_gateway = has_modules(SYSTEM_PYTHON)
     tried, wrong, left_out = 0, 0, 0
     for page in pages:
@@ -100,7 +101,7 @@ def main(words: Sequence[str]) -> int:
             left_out += len(wanted)
             continue
         tried += len(wanted)
-        wrong += len(list(wrong_in(page, wanted, program)))
+        wrong += len(list(wrong_in(page, wanted, str(asked.program))))
     print("%d commands of %d pages, %d print something else or fail%s" % (
         tried, len(pages), wrong,
         ", %d left out: a package is missing" % left_out if left_out else ""))
@@ -108,4 +109,4 @@ def main(words: Sequence[str]) -> int:
 
 
 if __name__ == "__main__":
-    sys.exit(main(sys.argv[1:]))
+    sys.exit(main())

@@ -241,7 +241,10 @@ class Tests:
         """What fails of a built program; None where nothing was run."""
         if self.name == TRANSCRIPTS:
             return self.failed_transcripts(path)
-        return self.failed_cases(path) if is_program(self.crate) else self.failed_tests(path)
+        if is_program(self.crate):
+            return self.failed_cases(path)
+        ends = self.ends_of(path)
+        return [name.split("::")[-1] for name, end, _ in ends if end != "ok"] if ends else None
 
     @contextmanager
     def switched(self, number: int) -> Iterator[Path]:
@@ -270,10 +273,6 @@ class Tests:
                                   stderr=subprocess.STDOUT, check=False)
         text = done.stdout.decode(errors="replace")
         return re.findall(r"^test (\S+) \.\.\. (.*)((?:\n .*)*)", text, re.MULTILINE)
-
-    def failed_tests(self, path: Path) -> list[str] | None:
-        ends = self.ends_of(path)
-        return [name.split("::")[-1] for name, end, _ in ends if end != "ok"] if ends else None
 
     def failed_cases(self, path: Path) -> list[str]:
         """The cases that the program doesn't tell to be `ok` as its file `stdout` does."""

@@ -116,14 +116,9 @@ def seen_in(top: Path, edits: list[Edit], crates: list[str]) -> dict[Edit, list[
                 print("%s: as it is, it fails: %s" % (name, found), flush=True)
                 continue
             for number, edit in planted.items():
-                seen[edit] += told(name, failed_in(tests, number))
+                failed = tests.failed(number)
+                seen[edit] += told(name, ["(too slow)"] if failed is None else failed)
     return seen
-
-
-def failed_in(tests: Tests, number: int) -> list[str]:
-    """What fails of a built program while the edit with this number is on."""
-    failed = tests.failed(number)
-    return ["(too slow)"] if failed is None else failed
 
 
 def put_in(top: Path, edit: Edit) -> None:

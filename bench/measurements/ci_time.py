@@ -10,6 +10,7 @@ from the first sight of a crate's part to the last. Last comes the line of this 
 PERFORMANCE.md, from which --last reads.
 """
 
+import argparse
 import glob
 import os
 import re
@@ -180,13 +181,15 @@ class Watch:
                      "%.1f of the processor" % (sum(total.values()) / 60))
 
 
-def main(words: list[str]) -> int:
-    if words == ["--last"]:
+def main() -> int:
+    parser = argparse.ArgumentParser(description=(__doc__ or "").split("\n", maxsplit=1)[0])
+    which = parser.add_mutually_exclusive_group(required=True)
+    which.add_argument("--pid", type=int, help="of the run that is watched")
+    which.add_argument("--last", action="store_true", help="how long the last run took")
+    asked = parser.parse_args()
+    if asked.last:
         return tell_last()
-    if len(words) != 2 or words[0] != "--pid":
-        print((__doc__ or "").strip(), file=sys.stderr)
-        return 2
-    watch = Watch(int(words[1]))
+    watch = Watch(asked.pid)
     while watch.look():
         time.sleep(BETWEEN_LOOKS)
     print("\n".join(watch.table()))
@@ -196,4 +199,4 @@ def main(words: list[str]) -> int:
 
 
 if __name__ == "__main__":
-    sys.exit(main(sys.argv[1:]))
+    sys.exit(main())

@@ -13,7 +13,7 @@ an empty one, and the same of a store that took only what layout 2 keeps.
 import os
 import random
 import sys
-from collections.abc import Iterable, Sequence
+from collections.abc import Sequence
 from pathlib import Path
 from typing import Optional
 
@@ -21,6 +21,9 @@ import make_release as rf2
 from compare_shell import DAYS, KEPT_SORTS, REFERENCED, SEED, Shell, Table, ask, columns_of
 from compare_shell import import_delta, import_full, newest, query_of, rows_alone
 from measure_harness import Sctd, compared_by, made_release
+
+sys.path.append(str(Path(__file__).resolve().parents[2] / "service"))
+from tests.release_files import latest  # noqa: E402
 
 LAST_DAY = "20261231"
 # So many members are asked for by pages of so many, so many by their ids, and so many concepts.
@@ -33,15 +36,6 @@ INDEXES = ("CREATE INDEX described ON D (conceptId) WHERE active = 1;",
 DESCRIPTION_COLUMNS = len(columns_of("D"))
 # Lines of the protocol, each with the shell's query that answers it.
 Questions = list[tuple[str, str]]
-
-
-def snapshot(rows: Iterable[list[str]], date: str) -> dict[str, list[str]]:
-    """Of each component the latest row up to a date."""
-    found: dict[str, list[str]] = {}
-    for row in rows:
-        if row[1] <= date and (row[0] not in found or found[row[0]][1] < row[1]):
-            found[row[0]] = row
-    return found
 
 
 def pages(command: str, refset: str, ends: Sequence[str]) -> Questions:
@@ -81,7 +75,7 @@ def of_language(full: Path) -> tuple[Questions, Questions]:
     """Pages of the members of a language reference set, and of its values."""
     refset = str(rf2.US_ENGLISH)
     members = [row for row in rf2.rows_of(full, "Language") if row[4] == refset]
-    shown = snapshot(members, LAST_DAY).values()
+    shown = latest(members, LAST_DAY).values()
     components = sorted((row[5] for row in shown if row[2] == "1"), key=int)
     return (pages("MEMBERS", refset, sorted(row[0] for row in shown)),
             pages("VALUES", refset, components))

@@ -61,7 +61,7 @@ class Connection:
 
     def __init__(self, path: str, make: Callable[[], bytes]) -> None:
         self.socket, self.make = self.connected(path), make
-        self.got, self.asked, self.wrong = b"", 0.0, 0
+        self.sent, self.got, self.asked, self.wrong = b"", b"", 0.0, 0
         self.waits: list[float] = []
 
     @staticmethod
@@ -75,8 +75,8 @@ class Connection:
         raise NotImplementedError
 
     def ask(self) -> None:
-        self.got, self.asked = b"", time.perf_counter()
-        self.socket.sendall(self.make())
+        self.got, self.asked, self.sent = b"", time.perf_counter(), self.make()
+        self.socket.sendall(self.sent)
 
     def is_done(self) -> bool:
         """Reads what has come. Whether it is all of the answer."""
@@ -101,21 +101,11 @@ class HttpClient(Connection):
 
 
 class HubClient(Connection):
-    """Four questions in one write."""
-
-    questions = 4
-
     def whole(self) -> bool:
         if not self.got.endswith(b"\n"):
             return False
         last = [line for line in self.got.split(b"\n") if line.startswith(LAST_LINES)]
-        return len(last) == self.questions
-
-
-class SlowHubClient(HubClient):
-    """One question in one write."""
-
-    questions = 1
+        return len(last) == self.sent.count(b"\n")
 
 
 def request(target: str) -> bytes:
@@ -281,7 +271,7 @@ def tried(options: argparse.Namespace) -> None:
                 ("$lookup", every, HttpClient, place, any_code, 1),
                 ("$lookup", every, HttpClient, place, any_code, 16),
                 ("$lookup, remembered", every, HttpClient, place, one_day, 16),
-                ("the hub, one question", below, SlowHubClient, hub_socket, one, 8),
+                ("the hub, one question", below, HubClient, hub_socket, one, 8),
                 ("the hub, four at once", below, HubClient, hub_socket, four, 8)):
             if pids is below or not options.raw_only:
                 taken = Taken(pids, client, path, make, clients, seconds)

@@ -11,7 +11,7 @@ import os
 import sys
 import tempfile
 
-from measure_gateway import (DEFAULT_ROWS, HUB, YEARS, SlowHubClient, Taken, begin_hub, concepts,
+from measure_gateway import (DEFAULT_ROWS, HUB, YEARS, HubClient, Taken, begin_hub, concepts,
                              make_store, options_of, question)
 from measure_harness import absolute, child_of, print_head, print_row
 from proxy_harness import stop  # measure_gateway.py looks for it.
@@ -37,7 +37,7 @@ def main() -> int:
                 process = begin_hub(options, folder, store, path)
                 try:
                     pids = [process.pid, child_of(process.pid)]
-                    taken = Taken(pids, SlowHubClient, path, make, clients, options.seconds)
+                    taken = Taken(pids, HubClient, path, make, clients, options.seconds)
                     print_row(hub, clients, "%.0f" % taken.rate, "%.2f" % taken.median,
                               "%.2f" % taken.p99, taken.spent_by_each())
                 finally:

@@ -35,7 +35,7 @@ from pathlib import Path
 
 sys.path.append(str(Path(__file__).resolve().parents[1] / "trials"))
 from measure_gateway import (  # noqa: E402
-    MS, VERSION, YEARS, Asked, Connection, HttpClient, SlowHubClient, Taken, concepts, lookup,
+    MS, VERSION, YEARS, Asked, Connection, HttpClient, HubClient, Taken, concepts, lookup,
     make_store, options_of, question, request)
 from measure_harness import child_of, print_head, print_row  # noqa: E402
 from harness import tell  # noqa: E402
@@ -183,7 +183,7 @@ def tried(options: argparse.Namespace) -> None:
     with open_folder() as place, contextlib.closing(Service(options, place)) as service:
         print_head("Asked", "a second", "median ms", "p99 ms", "processor us")
         one = functools.partial(question, service.codes, service.days)
-        service.measured("the hub, %d clients" % CLIENTS, SlowHubClient, str(service.questions),
+        service.measured("the hub, %d clients" % CLIENTS, HubClient, str(service.questions),
                          one, CLIENTS)
         service.measured("$lookup by nginx, %d clients" % CLIENTS, Tls, service.tls,
                          service.any_code(), CLIENTS)

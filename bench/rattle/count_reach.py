@@ -71,7 +71,8 @@ class Reach(Reached):
             for named in set(self.types_in(found.module, heads)):
                 if named.sort in ("struct", "enum"):
                     self.reach(OfType(named.module.crate, named), name)
-                elif named.sort == "trait" and not is_law(found.item):
+                # (A law takes nothing and answers nothing, and so calls nothing of a trait.)
+                elif named.sort == "trait" and not found.item.head.rstrip().endswith("()"):
                     self.reach_members(named, named.module, name, lambda member: True)
 
     def function(self, name: str) -> Optional[Found]:
@@ -96,20 +97,11 @@ class Reach(Reached):
         return None
 
 
-def is_law(item: Item) -> bool:
-    """Whether a function takes nothing and answers nothing, and so calls nothing of a trait."""
-    return str(item.head).rstrip().endswith("()")
-
-
-def line_count(text: str) -> int:
-    """How many lines have text besides a comment."""
-    return sum(1 for line in without_comments(text).split("\n") if line.strip())
-
-
 def reach_of(project: Reached) -> tuple[int, int]:
-    """How many words are reached, and how many lines their definitions have."""
+    """How many words are reached, and how many lines their definitions have besides comments."""
     reached = [word for word in project.words.values() if word.key in project.why]
-    return len(reached), sum(line_count(word.text) for word in reached)
+    lines = (line for word in reached for line in without_comments(word.text).split("\n"))
+    return len(reached), sum(1 for line in lines if line.strip())
 
 
 def product_crates() -> set[str]:

@@ -80,9 +80,6 @@ class Function:
     body: int
     end: int
 
-    def is_method_of_trait(self) -> bool:
-        return " for " in self.owner or self.owner.startswith("trait")
-
 
 class Outcome(enum.Enum):
     """What a try of an edit came to."""
@@ -400,13 +397,12 @@ class Trial:
         for path, functions in sorted(self.sources.items()):
             for function in functions:
                 name = proved_name(function, self.names)
-                if name and not function.is_method_of_trait():
+                is_of_trait = " for " in function.owner or function.owner.startswith("trait")
+                if name and not is_of_trait:
+                    has_proof = folder_of(os.path.join(self.folder, "proofs"), name) is not None
                     calls_one = bool(self.calls.direct.get(name, set()) & self.names)
-                    found.append((self.has_proof(name), calls_one, path, function))
+                    found.append((has_proof, calls_one, path, function))
         return [(path, function) for *_, path, function in sorted(found, key=lambda it: it[:2])]
-
-    def has_proof(self, name: str) -> bool:
-        return folder_of(os.path.join(self.folder, "proofs"), name) is not None
 
     def planted(self, texts: dict[str, str], path: str, function: Function) -> dict[str, str]:
         """The texts with the statement that does nothing at the beginning of this function."""

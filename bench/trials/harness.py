@@ -566,14 +566,9 @@ def description(number: int, of: int, term: str, date: str = DAY, kind: int = rf
         rf2.CASE_INSENSITIVE]))
 
 
-def flip(path: Path, at: int = FIRST_ROW) -> bytes:
+def flip(path: Path, at: int = FIRST_ROW, byte: bytes = FLIPPED) -> bytes:
     """Changes a byte of a file, and answers the one that was there."""
     with open(path, "r+b") as file:
         before = os.pread(file.fileno(), 1, at)
-        os.pwrite(file.fileno(), FLIPPED, at)
-    return before
-
-
-def put_back(path: Path, at: int, byte: bytes) -> None:
-    with open(path, "r+b") as file:
         os.pwrite(file.fileno(), byte, at)
+    return before

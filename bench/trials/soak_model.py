@@ -73,13 +73,9 @@ class Versions:
         found = sorted(self.of.get(name, {}).items())
         return [v[1] for _, v in found if v[0] <= pin]
 
-    def dates_of(self, number: int) -> list[str]:
-        """The dates of the rows that an import brought, one for each row."""
-        return [d for dates in self.of.values() for d, v in dates.items() if v[0] == number]
-
-    def dates_up_to(self, pin: int) -> set[str]:
-        """The dates of the rows that a pin shows."""
-        return {d for dates in self.of.values() for d, v in dates.items() if v[0] <= pin}
+    def dates(self, first: int, last: int) -> list[str]:
+        """The dates of the rows that some imports brought, one for each row."""
+        return [d for dates in self.of.values() for d, v in dates.items() if first <= v[0] <= last]
 
     def keep_first(self, imports: int) -> None:
         """Forgets what later imports brought."""
@@ -286,7 +282,7 @@ class Model:
         return rows_and_end(found)
 
     def ask_dates(self, pin: int) -> Reply:
-        found = set().union(*(self.kinds[kind].dates_up_to(pin) for kind in KINDS))
+        found = {date for kind in KINDS for date in self.kinds[kind].dates(1, pin)}
         return ["DATE " + date for date in sorted(found)] + ["END %d" % len(found)]
 
     def ask_digest(self, pin: int) -> Reply:
@@ -323,7 +319,7 @@ class Model:
             return NO_ARGUMENTS
         if number > pin:
             return NO_SUCH_IMPORT
-        dates = [date for kind in KINDS for date in self.kinds[kind].dates_of(number)]
+        dates = [date for kind in KINDS for date in self.kinds[kind].dates(number, number)]
         return ["OK %d %d %s" % (number, len(dates), max(dates, default="-"))]
 
     def links(self, pin: int, date: str) -> list[tuple[int, int]]:

@@ -22,7 +22,7 @@ from pathlib import Path
 import pytest
 
 from harness import BLOCK, FIRST_ROW, RELEASES, SECONDS, Place, Ran, Server, concept
-from harness import concept_id, flip, mode, put_back, write_release
+from harness import concept_id, flip, mode, write_release
 import make_release as rf2
 
 KINDS = "CDRAVM"
@@ -524,7 +524,7 @@ def test_damage(place: Place, layout: int, meets: str) -> None:
         assert server.ask("RECEIPT 1") == ["OK 1 6 20200131"]
         assert server.end() == 0
     assert place.run("status", "--store", store)[:2] == (1, "ERR 8 Damaged\n")
-    put_back(store, FIRST_ROW, byte)
+    flip(store, FIRST_ROW, byte)
     assert (place.status(store), place.digest(store)) == ("OK 3 12 3 -", digest)
     # A merge may have written behind what the store needs.
     assert store.read_bytes()[: len(before)] == before

@@ -13,8 +13,11 @@ from pathlib import Path
 import pytest
 
 import harness
-from harness import AROUND, HUB_SECONDS, Hub, Place, Wrong, concept, concept_id, write_release
+from harness import AROUND, HUB_SECONDS, TOP, Hub, Place, Wrong, concept, concept_id, write_release
 import make_release as rf2
+
+sys.path.append(str(TOP / "service"))
+from tests.release_files import Rows, Snapshot  # noqa: E402
 
 ADDED = ["active_then", "name_then", "active_now", "name_now", "replaced_by",
          "may_be_replaced_by", "problem", "pin", "receipt"]
@@ -239,56 +242,42 @@ def test_readings(place: Place) -> None:
         assert now[1][-2:] == ["2", "OK 2 1 20230131"]
 
 
-class Files:
-    """What the rows of a made release say, read one by one."""
+def state(known: Snapshot, code: str) -> list[str]:
+    """Whether a concept is active on a day, and its name then."""
+    if code not in known.concepts:
+        return ["", ""]
+    names = [row for row in known.terms(code) if row[6] == str(rf2.FULLY_SPECIFIED)]
+    return [known.concepts[code][2], min(names, key=lambda row: int(row[0]))[7] if names else ""]
 
-    def __init__(self, rows: dict[str, list[str]]) -> None:
-        self.rows = {kind: [row.split("\t") for row in rows[kind]] for kind in "CDA"}
 
-    def at(self, kind: str, date: str, about: str, column: int) -> list[list[str]]:
-        """The latest versions up to a date of the components that have a value in a column."""
-        latest: dict[str, list[str]] = {}
-        for row in self.rows[kind]:
-            if row[1] <= date and (row[0] not in latest or latest[row[0]][1] < row[1]):
-                latest[row[0]] = row
-        return [row for row in latest.values() if row[column] == about]
-
-    def state(self, code: str, date: str) -> list[str]:
-        versions = self.at("C", date, code, 0)
-        if not versions:
-            return ["", ""]
-        names = [row for row in self.at("D", date, code, 4)
-                 if row[2] == "1" and row[6] == str(rf2.FULLY_SPECIFIED)]
-        return [versions[0][2], min(names, key=lambda row: int(row[0]))[7] if names else ""]
-
-    def replacing(self, code: str) -> set[str]:
-        """The active concepts that took the place of a retired one."""
-        found: set[str] = set()
-        seen, left = {code}, [code]
-        while left:
-            for row in self.at("A", "99991231", left.pop(), 5):
-                if row[2] == "1" and row[6] not in seen:
-                    seen.add(row[6])
-                    if self.state(row[6], "99991231")[0] == "1":
-                        found.add(row[6])
-                    else:
-                        left.append(row[6])
-        return found
+def replacing(known: Snapshot, code: str) -> set[str]:
+    """The active concepts that took the place of a retired one."""
+    found: set[str] = set()
+    seen, left = {code}, [code]
+    while left:
+        for row in known.about["A"].get(left.pop(), []):
+            if row[6] not in seen:
+                seen.add(row[6])
+                if state(known, row[6])[0] == "1":
+                    found.add(row[6])
+                else:
+                    left.append(row[6])
+    return found
 
 
 def test_made_release(place: Place) -> None:
     """Records of a made release, against what its files say."""
     rows = rf2.full(rf2.Edition(3), 4_000)
-    files, chance = Files(rows), random.Random(3)
-    codes = sorted({row[0] for row in files.rows["C"]})
+    files = Rows({kind: [row.split("\t") for row in rows.get(kind, [])] for kind in "CDRVAM"})
+    codes, chance = files.concepts(), random.Random(3)
     records = [[chance.choice(codes), chance.choice(rf2.DATES)] for _ in range(300)]
     with with_release(place, "made", rows) as hub:
         found = read(place, hub, written([["code", "date"], *records]))[1:]
     assert len(found) == len(records)
+    now, then = Snapshot(files, "99991231"), {day: Snapshot(files, day) for day in rf2.DATES}
     for (code, date), row in zip(records, found):
-        now = files.state(code, "99991231")
-        assert row[2:6] == files.state(code, date) + now, (code, date)
-        wanted = files.replacing(code) if now[0] == "0" else set()
+        assert row[2:6] == state(then[date], code) + state(now, code), (code, date)
+        wanted = replacing(now, code) if state(now, code)[0] == "0" else set()
         assert set(row[6].split()) == wanted, code
     assert sum(bool(row[6]) for row in found) >= 10
 

@@ -423,17 +423,14 @@ class Asking(Clients):
             return self.refused(question, began, str(status))
         kind = "at a pin" if question.pin is not None else "without a pin"
         pin = int(headers.get("x-sctd-pin", "-1"))
-        if pin != question.pin if question.pin is not None else not 0 < pin <= self.newest():
+        # (Without a pin that of an import that is being made is right, too.)
+        if pin not in ([question.pin] if question.pin else range(1, self.site.imports + 2)):
             fault = "wrong: pin %d, status %d: %r" % (pin, status, body[:200])
         else:
             fault = judge.fault(question, pin, status, body)
         self.counts[fault.partition(":")[0] or "answered " + kind] += 1
         if fault:
             self.faults.append("%s: %s" % (question.path, fault))
-
-    def newest(self) -> int:
-        """How many imports there may be, with the one that is made."""
-        return self.site.imports + 1
 
     def refused(self, question: Question, began: float, why: str) -> None:
         self.counts["refused"] += 1
