@@ -1,5 +1,5 @@
 -- Entries whose rows stand one after the other.
-use Rattle.std.proofs.Common.{◌≡◌, ℕ, zero, suc, ◌+◌, ◌-◌, ◌<◌, ◌≤◌, true, false, List, [], ◌∷◌, ◌++◌, length, map, take, drop, refl, sym, ap, subst, inl, inr, ◌∙◌, arith, append_assoc, append-nil, take_all}
+use Rattle.std.proofs.Common.{◌≡◌, ◌⊎◌, ℕ, zero, suc, ◌+◌, ◌-◌, ◌<◌, ◌≤◌, true, false, List, [], ◌∷◌, ◌++◌, length, map, take, drop, refl, sym, ap, subst, inl, inr, ◌∙◌, arith, append_assoc, append-nil, take_all}
 use Rattle.std.specs.Prelude.{Bool, Some, slice_get, nat_le, flat_map}
 use Rattle.std.specs.Option.{option_map}
 use Rattle.std.specs.List.{AllByRecursion}
@@ -8,6 +8,8 @@ use Rattle.std.proofs.lemmas.Option.{slice_get-map, same_Some, slice_get_within}
 use Rattle.std.proofs.lemmas.Grind.{flat_map-append}
 use Rattle.std.proofs.lemmas.Bool.Decides.{nat_tests}
 use Rattle.std.proofs.Math.Seq.{drop-append_seam}
+use Rattle.history_model.specs.InOrder.{Has}
+use Rattle.history_model.proofs.Items.{number_of_item}
 use Rattle.as_of_index.specs.Private.Search.{SplitsAt}
 use Rattle.as_of_index.proofs.First.{Falls}
 use Rattle.term_prefix.specs.Terms.{TermAt}
@@ -18,6 +20,12 @@ use Rattle.term_words.specs.Posted.{keyed, word_key}
 use Rattle.term_words.specs.Laid.{key_in, EndsWithin, EachEndsWithin, keys_in, rows_of, entry_postings, postings_in}
 use Rattle.term_words.specs.Private.Chains.{AreChained, AreEntries}
 use Rattle.term_words.specs.Private.{IsLaid, IsLast, grown}
+
+below_or_not : (m n : ℕ) → (m < n) ⊎ (n ≤ m)
+below_or_not zero zero = inr (omega arith)
+below_or_not zero (suc n) = inl (omega arith)
+below_or_not (suc m) zero = inr (omega arith)
+below_or_not (suc m) (suc n) = elim (below_or_not m n) [ inl lt ↦ inl (omega arith) | inr le ↦ inr (omega arith) ]
 
 -- ---- a text that grows
 
@@ -277,3 +285,117 @@ passed-falls number from (e ∷ entries) end h = (each (from + e.count) entries 
     before d (let first = chained.0 in omega (arith, first)),
     each (after + d.count) others (omega arith) chained.2,
   )
+
+-- ---- the rows of the postings
+
+take_none : {X : Type 0} (n : ℕ) → take {A = X} n [] ≡ []
+take_none zero = refl
+take_none (suc n) = refl
+
+drop_none : {X : Type 0} (n : ℕ) → drop {A = X} n [] ≡ []
+drop_none zero = refl
+drop_none (suc n) = refl
+
+take_sum : {X : Type 0} (m n : ℕ) (xs : List X) → take (m + n) xs ≡ take m xs ++ take n (drop m xs)
+take_sum zero n xs = let number : zero + n ≡ n = omega arith in ap (λ k. take k xs) number
+take_sum {X} (suc m) n [] =
+    let shift : suc m + n ≡ suc (m + n) = omega arith in
+    let none : List X = [] in
+    ap (λ k. take k none) shift ∙ sym (take_none n)
+take_sum (suc m) n (x ∷ xs) =
+    let shift : suc m + n ≡ suc (m + n) = omega arith in
+    ap (λ k. take k (x ∷ xs)) shift ∙ ap (λ zs. x ∷ zs) (take_sum m n xs)
+
+drop_sum : {X : Type 0} (m n : ℕ) (xs : List X) → drop n (drop m xs) ≡ drop (m + n) xs
+drop_sum zero n xs = let number : n ≡ zero + n = omega arith in ap (λ k. drop k xs) number
+drop_sum {X} (suc m) n [] =
+    let shift : suc (m + n) ≡ suc m + n = omega arith in
+    let none : List X = [] in
+    drop_none n ∙ ap (λ k. drop k none) shift
+drop_sum (suc m) n (x ∷ xs) =
+    let shift : suc (m + n) ≡ suc m + n = omega arith in
+    drop_sum m n xs ∙ ap (λ k. drop k (x ∷ xs)) shift
+
+map_both : {X Y : Type 0} (f : X → Y) (xs ys : List X) → map f (xs ++ ys) ≡ map f xs ++ map f ys
+map_both f [] ys = refl
+map_both f (x ∷ xs) ys = ap (λ zs. f x ∷ zs) (map_both f xs ys)
+
+named_rows : (key rows : List ℕ) → map (λ (t : TermAt). t.row) (map (λ row. keyed row key) rows) ≡ rows
+named_rows key [] = refl
+named_rows key (row ∷ rows) = ap (λ zs. row ∷ zs) (named_rows key rows)
+
+rows-chained : (text rows : List ℕ) (from : ℕ) (entries : List Entry) (end : ℕ) → AreChained from entries end → end ≤ length rows → map (λ (t : TermAt). t.row) (postings_in text entries rows) ≡ take (end - from) (drop from rows)
+rows-chained text rows from [] end h within = let none : zero ≡ end - from = omega (arith, h) in ap (λ n. take n (drop from rows)) none
+rows-chained text rows from (e ∷ entries) end h within =
+    let le = chain_end (from + e.count) entries end h.2 in
+    let rest = rows-chained text rows (from + e.count) entries end h.2 within in
+    let own : map (λ (t : TermAt). t.row) (entry_postings text rows e) ≡ take e.count (drop from rows) = named_rows (key_in text e.key) (rows_of rows e) ∙ ap (λ n. take e.count (drop n rows)) h.0 in
+    let left = end - (from + e.count) in
+    let number : e.count + left ≡ end - from = omega (arith, le) in
+    map_both (λ (t : TermAt). t.row) (entry_postings text rows e) (postings_in text entries rows)
+    ∙ (λ i. own i ++ rest i)
+    ∙ ap (λ xs. take e.count (drop from rows) ++ take left xs) (sym (drop_sum from e.count rows))
+    ∙ sym (take_sum e.count left (drop from rows))
+    ∙ ap (λ n. take n (drop from rows)) number
+
+pub rows-posted : (text rows : List ℕ) (entries : List Entry) → AreEntries text entries rows → map (λ (t : TermAt). t.row) (postings_in text entries rows) ≡ rows
+rows-posted text rows entries are = rows-chained text rows 0 entries (length rows) are.chained (omega arith) ∙ take_all (length rows - 0) rows (omega arith)
+
+-- ---- the entry of a posting
+
+-- the entry that has the posting with a number, and the number of its row there
+pub record HasPosting (text rows : List ℕ) (entries : List Entry) (number : ℕ) (t : TermAt) : Type 0 where
+  pub e : Entry
+  pub there : Has entries e
+  pub low : e.first ≤ number
+  pub row_there : slice_get (rows_of rows e) (number - e.first) ≡ Some t.row
+  pub key_is : key_in text e.key ≡ t.folded
+
+get_left : {X : Type 0} (xs ys : List X) (i : ℕ) → i < length xs → slice_get (xs ++ ys) i ≡ slice_get xs i
+get_left [] ys i lt = absurd (omega arith)
+get_left (x ∷ xs) ys zero lt = refl
+get_left (x ∷ xs) ys (suc i) lt = get_left xs ys i (omega arith)
+
+pub posting-of : (text rows : List ℕ) (from : ℕ) (entries : List Entry) (end j : ℕ) (t : TermAt) → AreChained from entries end → end ≤ length rows → slice_get (postings_in text entries rows) j ≡ Some t → HasPosting text rows entries (from + j) t
+posting-of text rows from [] end j t h within at = absurd cc
+posting-of text rows from (e ∷ entries) end j t h within at =
+    let le = chain_end (from + e.count) entries end h.2 in
+    let own = posting-count text rows from end e h.0 le within in
+    elim (below_or_not j e.count) [
+      | inl lt ↦ (
+          let first = h.0 in
+          let key = key_in text e.key in
+          let named : ℕ → TermAt = λ row. keyed row key in
+          let here : slice_get (entry_postings text rows e) j ≡ Some t = sym (get_left (entry_postings text rows e) (postings_in text entries rows) j (omega (arith, own, lt))) ∙ at in
+          let w = mapped named (rows_of rows e) j t here in
+          let number : j ≡ (from + j) - e.first = omega (arith, first) in
+          record {
+            e = e;
+            there = inl refl;
+            low = omega (arith, first);
+            row_there = ap (slice_get (rows_of rows e)) (sym number) ∙ w.1 ∙ ap (λ (x : TermAt). Some x.row) w.2;
+            key_is = ap (λ (x : TermAt). x.folded) w.2;
+          })
+      | inr ge ↦ (
+          let shift : e.count + (j - e.count) ≡ j = omega (arith, ge) in
+          let after : slice_get (postings_in text entries rows) (j - e.count) ≡ Some t = sym (get-append_right (entry_postings text rows e) (postings_in text entries rows) (j - e.count) e.count own) ∙ ap (slice_get (entry_postings text rows e ++ postings_in text entries rows)) shift ∙ at in
+          let w = posting-of text rows (from + e.count) entries end (j - e.count) t h.2 within after in
+          let number : (from + e.count) + (j - e.count) ≡ from + j = omega (arith, ge) in
+          subst (λ n. HasPosting text rows (e ∷ entries) n t) number (record { e = w.e; there = inr w.there; low = w.low; row_there = w.row_there; key_is = w.key_is }))
+    ] where
+      mapped : (f : ℕ → TermAt) (xs : List ℕ) (i : ℕ) (u : TermAt) → slice_get (map f xs) i ≡ Some u → (x : ℕ) × (slice_get xs i ≡ Some x) × (f x ≡ u)
+      mapped f [] i u e = absurd cc
+      mapped f (x ∷ xs) zero u e = (x, refl, same_Some (f x) u e)
+      mapped f (x ∷ xs) (suc i) u e = mapped f xs i u e
+
+-- a row of an entry is posted with its number
+pub row-posted : (text rows : List ℕ) (entries : List Entry) (e : Entry) (j i : ℕ) → AreEntries text entries rows → Has entries e → slice_get (rows_of rows e) j ≡ Some i → slice_get (postings_in text entries rows) (e.first + j) ≡ Some (keyed i (key_in text e.key))
+row-posted text rows entries e j i are h there =
+    let w = number_of_item entries e h in
+    let lt = part-within e.count (drop e.first rows) j i there in
+    posting-at text rows entries w.0 (e.first + j) e i are.chained w.1 (omega arith) (omega (arith, lt)) (sym (get-drop rows e.first j) ∙ sym (get-take (drop e.first rows) e.count j lt) ∙ there) where
+      part-within : (n : ℕ) (xs : List ℕ) (j i : ℕ) → slice_get (take n xs) j ≡ Some i → j < n
+      part-within zero xs j i e = absurd cc
+      part-within (suc n) [] j i e = absurd cc
+      part-within (suc n) (x ∷ xs) zero i e = omega arith
+      part-within (suc n) (x ∷ xs) (suc j) i e = let lt = part-within n xs j i e in omega (arith, lt)

@@ -31,7 +31,7 @@ all-behind : (P : TermAt → Type 0) (xs ys : List TermAt) → AllByRecursion P 
 all-behind P [] ys h = h
 all-behind P (x ∷ xs) ys h = all-behind P xs ys h.1
 
-rise-behind : (xs ys : List TermAt) → TextsRise (xs ++ ys) → TextsRise ys
+pub rise-behind : (xs ys : List TermAt) → TextsRise (xs ++ ys) → TextsRise ys
 rise-behind [] ys up = up
 rise-behind (x ∷ xs) ys up = rise-behind xs ys up.1
 

@@ -1,6 +1,6 @@
 -- How keys and postings are stored, for the types' invariants: the bytes of words in one text, and
 -- each key once, with the numbers of the rows that have it behind one another.
-use Rattle.std.specs.Prelude.{◌≤◌, ◌<◌, ℕ, ◌+◌, List, [], map, flat_map, take, drop, length}
+use Rattle.std.specs.Prelude.{◌≡◌, ◌≤◌, ◌<◌, ℕ, ◌+◌, ◌^◌, ◌++◌, List, [], map, flat_map, take, drop, length}
 use Rattle.std.specs.Prelude.{get_or}
 use Rattle.std.specs.List.{AllByRecursion}
 use Rattle.term_words.specs.declared.keys.KeyAt.{KeyAt}
@@ -38,6 +38,33 @@ entry_postings text rows e = map (λ row. keyed row (key_in text e.key)) (rows_o
 
 abbrev pub postings_in : List ℕ → List Entry → List ℕ → List TermAt
 postings_in text entries rows = flat_map (entry_postings text rows) entries
+
+-- ---- postings in two parts
+
+-- the text of a posting by length and type begins so, and that of one by a word
+abbrev pub IsSizeKey : List ℕ → Type 0
+IsSizeKey key = get_or key 0 2 ≡ 0
+
+abbrev pub IsWordKey : List ℕ → Type 0
+IsWordKey key = get_or key 0 2 ≡ 1
+
+-- the number of the row whose posting by length and type has this number among these
+abbrev pub row_of_rank : List TermAt → ℕ → ℕ
+row_of_rank sizes rank = (get_or sizes rank (keyed 0 [])).row
+
+-- a posting by a word is stored with the rank of its row
+abbrev pub by_rank : List TermAt → TermAt → TermAt
+by_rank sizes t = keyed (row_of_rank sizes t.row) t.folded
+
+-- the postings that are stored in these two parts
+abbrev pub seen_in : List TermAt → List TermAt → List TermAt
+seen_in sizes words = sizes ++ map (by_rank sizes) words
+
+-- the first part has postings by length and type, and the second one those by words with ranks
+pub record AreParted (sizes words : List TermAt) : Type 0 where
+  pub of_sizes : AllByRecursion (λ (t : TermAt). IsSizeKey t.folded) sizes
+  pub of_words : AllByRecursion (λ (t : TermAt). IsWordKey t.folded × (t.row < length sizes)) words
+  pub few : length sizes + length words < 2 ^ 32
 
 -- ---- postings as they are pushed
 

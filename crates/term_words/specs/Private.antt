@@ -1,9 +1,10 @@
 -- Definitions for private functions and proofs. No public clause cites them.
 pub mod Chains
 use Rattle.std.specs.Prelude.{◌≡◌, ◌≤◌, ◌<◌, ◌⊎◌, ◌↔◌, ℕ, ◌+◌, ◌-◌, Bool, true, false, List, [], ◌∷◌}
-use Rattle.std.specs.Prelude.{◌++◌, length, map, drop, get_or, slice_get, slice_index_or, nat_eq}
+use Rattle.std.specs.Prelude.{◌++◌, length, map, flat_map, take, drop, get_or, slice_get, nat_eq}
 use Rattle.std.specs.Prelude.{Option, Some, None, Result, IfOk, OnOk, encode_utf8_all}
 use Rattle.std.specs.List.{AllByRecursion, starts_with}
+use Rattle.std.specs.Option.{option_to_list}
 use Rattle.std.specs.Ordering.{nat_cmp, is_lt}
 use Rattle.std.specs.Cmp.Lexicographic.{slice_cmp}
 use Rattle.rf2_values.specs.Row.{RowValue}
@@ -23,6 +24,9 @@ use Rattle.term_words.specs.declared.keys.KeyAt.{KeyAt}
 use Rattle.term_words.specs.declared.keys.KeyAt.TheVariants as places
 use Rattle.term_words.specs.declared.listing.Entry.{Entry}
 use Rattle.term_words.specs.declared.listing.Posting.{Posting}
+use Rattle.term_words.specs.declared.listing.Parts.{Parts}
+use Rattle.term_words.specs.declared.ordered.Split.{Split}
+use Rattle.term_words.specs.declared.ordered.Placed.{Placed}
 use Rattle.term_words.specs.declared.postings.Pushed.{Pushed}
 use Rattle.term_words.specs.declared.sealing.Numbered.{Numbered}
 use Rattle.term_words.specs.declared.sealing.Ranked.{Ranked}
@@ -31,8 +35,9 @@ use Rattle.term_words.specs.declared.merging.Next.TheVariants as next
 use Rattle.term_words.specs.declared.grouping.Group.{Group}
 use Rattle.term_words.specs.Posted.{keyed, measure_key, word_key}
 use Rattle.term_words.specs.Laid.{key_in, keys_in, EndsWithin, EachEndsWithin}
-use Rattle.term_words.specs.Private.Chains.{key_of}
-use Rattle.term_words.specs.Laid.{all_pushed_in, ArePushed, rows_of}
+use Rattle.term_words.specs.Private.Chains.{key_of, AreEntries}
+use Rattle.term_words.specs.Laid.{all_pushed_in, ArePushed, rows_of, postings_in, seen_in, AreParted}
+use Rattle.memchr.specs.Find.{is_byte, places as places_that}
 
 -- the bytes of a key's word were added to a text, where they are at this place
 pub record IsLaid (text key text' : List ℕ) (at : KeyAt) : Type 0 where
@@ -59,6 +64,10 @@ grown e = record { key = e.key; first = e.first; count = e.count + 1 }
 abbrev pub SaysPosting : Option TermAt → Option Posting → Type 0
 SaysPosting there None = there ≡ None
 SaysPosting there (Some p) = there ≡ Some (keyed p.row (key_of p.key))
+
+abbrev pub SaysPlaced : Option TermAt → Option Placed → Type 0
+SaysPlaced there None = there ≡ None
+SaysPlaced there (Some p) = there ≡ Some (keyed p.row (key_of p.key))
 
 -- ---- the words of a text
 
@@ -151,9 +160,33 @@ all_ranked_in keys all = map (ranked_in keys) all
 abbrev pub entry_keys : List ℕ → List Entry → List (List ℕ)
 entry_keys text entries = map (λ e. key_in text e.key) entries
 
-abbrev pub is_measure : KeyAt → Bool
-is_measure (places.Measure len type_id) = true
-is_measure (places.Word start len) = false
+-- what is stored of a part of the postings
+abbrev pub all_in : Parts → List TermAt
+all_in p = postings_in p.text.now p.entries.now p.rows.now
+
+abbrev pub AreStored : Parts → Type 0
+AreStored p = AreEntries p.text.now p.entries.now p.rows.now
+
+abbrev pub PartsRise : Parts → Type 0
+PartsRise p = KeysRise (entry_keys p.text.now p.entries.now)
+
+-- the postings are stored in these two parts
+pub record IsSplit (ts : List TermAt) (s : Split) : Type 0 where
+  pub same : seen_in (all_in s.sizes) (all_in s.words) ≡ ts
+  pub parted : AreParted (all_in s.sizes) (all_in s.words)
+  pub sizes_are : AreStored s.sizes
+  pub words_are : AreStored s.words
+
+-- what a search needs to know of the parts of a list
+abbrev pub IsUsable : Split → Type 0
+IsUsable s = AreStored s.sizes × PartsRise s.words
+
+-- for each list there are the parts in which its postings are stored
+abbrev pub AreSplit : List (List TermAt) → List Split → Type 0
+AreSplit [] [] = Unit {0}
+AreSplit [] (s ∷ splits) = ⊥
+AreSplit (ts ∷ lists) [] = ⊥
+AreSplit (ts ∷ lists) (s ∷ splits) = (IsSplit ts s × PartsRise s.words) × AreSplit lists splits
 
 -- ---- merging
 
@@ -173,43 +206,43 @@ abbrev pub IsBegun : List TermAt → List ℕ → ℕ → Type 0
 IsBegun ts prefix i =
     (t : TermAt) × Has ts t × (t.row ≡ i) × (starts_with nat_eq t.folded prefix ≡ true)
 
-abbrev pub IsMarked : List Bool → ℕ → Type 0
-IsMarked marks i = slice_get marks i ≡ Some true
+abbrev pub IsMarked : List ℕ → ℕ → Type 0
+IsMarked marks i = slice_get marks i ≡ Some 1
 
--- those of the rows that are marked among others were marked too
-pub record AddsMarks (marks among : List Bool) (rows : List ℕ) (marks' : List Bool) : Type 0 where
+-- those of the descriptions that are marked among others were marked too
+pub record AddsMarks (marks among ranks marks' : List ℕ) : Type 0 where
   pub many : length marks' ≡ length marks
   pub marked : length marks ≡ length among → (i : ℕ) → IsMarked marks' i
-      ↔ (IsMarked marks i ⊎ (IsMarked among i × Has rows i))
+      ↔ (IsMarked marks i ⊎ (IsMarked among i × Has ranks i))
 
--- those rows are marked, among the marked ones, that have a key beginning with this one
-pub record AreNarrowed (ts : List TermAt) (among : List Bool) (prefix : List ℕ) (marks : List Bool)
-    : Type 0 where
+-- those are marked, among the marked ones, that have a key beginning with this one
+pub record AreNarrowed (ts : List TermAt) (among prefix marks : List ℕ) : Type 0 where
   pub many : length marks ≡ length among
   pub marked : (i : ℕ) → IsMarked marks i ↔ (IsMarked among i × IsBegun ts prefix i)
 
--- of the first `count` rows those are marked that have for each wanted key one beginning with it
-pub record AreMarked (ts : List TermAt) (wanted : List (List ℕ)) (count : ℕ) (marks : List Bool)
+-- of the first `count` those are marked that have for each wanted key one beginning with it
+pub record AreMarked (ts : List TermAt) (wanted : List (List ℕ)) (count : ℕ) (marks : List ℕ)
     : Type 0 where
   pub many : length marks ≡ count
   pub marked : (i : ℕ) → IsMarked marks i
       ↔ ((i < count) × ((prefix : List ℕ) → Has wanted prefix → IsBegun ts prefix i))
 
--- each list's marks are those of its first rows, as many as the index lists
-abbrev pub EachMarked : List (List RowPlace) → List (List TermAt) → List (List ℕ)
-    → List (List Bool) → Type 0
-EachMarked index lists wanted marks = (n : ℕ) (ts : List TermAt) → slice_get lists n ≡ Some ts
-    → (own : List Bool) × (slice_get marks n ≡ Some own)
-    × AreMarked ts wanted (length (slice_index_or index n [])) own
+-- each list's marks are those of its descriptions, by their ranks
+abbrev pub EachMarked : List Split → List (List ℕ) → List (List ℕ) → Type 0
+EachMarked splits wanted marks = (n : ℕ) (s : Split) → slice_get splits n ≡ Some s
+    → (own : List ℕ) × (slice_get marks n ≡ Some own)
+    × AreMarked (all_in s.words) wanted (length s.sizes.rows.now) own
 
--- row `i` has a term of this length, and of the wanted type if one is wanted
-abbrev pub IsSized : List TermAt → Option ℕ → ℕ → ℕ → Type 0
-IsSized ts wanted_type len i = (type_id : ℕ) × Has ts (keyed i (measure_key len type_id))
+-- the posting with this number says that row `i` has a term of this length, and of the wanted type
+-- if one is wanted
+abbrev pub IsSized : List TermAt → Option ℕ → ℕ → ℕ → ℕ → Type 0
+IsSized ts wanted_type len rank i = (type_id : ℕ)
+    × (slice_get ts rank ≡ Some (keyed i (measure_key len type_id)))
     × (is_of_type wanted_type type_id ≡ true)
 
-abbrev pub IsSizedIn : List (List TermAt) → Option ℕ → ℕ → ℕ → ℕ → Type 0
-IsSizedIn lists wanted_type n len i =
-    (ts : List TermAt) × (slice_get lists n ≡ Some ts) × IsSized ts wanted_type len i
+abbrev pub IsSizedIn : List Split → Option ℕ → ℕ → ℕ → ℕ → ℕ → Type 0
+IsSizedIn splits wanted_type n len rank i =
+    (s : Split) × (slice_get splits n ≡ Some s) × IsSized (all_in s.sizes) wanted_type len rank i
 
 -- the rows of the entry, which is by a length and the wanted type, are a group of list `n`
 pub record IsGroupOf (rows : List ℕ) (n : ℕ) (wanted_type : Option ℕ) (e : Entry) (g : Group)
@@ -218,6 +251,7 @@ pub record IsGroupOf (rows : List ℕ) (n : ℕ) (wanted_type : Option ℕ) (e :
   pub key_is : e.key ≡ places.Measure g.len type_id
   pub of_type : is_of_type wanted_type type_id ≡ true
   pub segment_is : g.segment ≡ n
+  pub first_is : g.first ≡ e.first
   pub rows_are : g.rows.now ≡ rows_of rows e
 
 -- the groups of these entries were added
@@ -231,72 +265,84 @@ pub record AddsGroupsOf (rows : List ℕ) (n : ℕ) (wanted_type : Option ℕ) (
       → is_of_type wanted_type type_id ≡ true
       → (g : Group) × Has more g × IsGroupOf rows n wanted_type e g
 
+-- the row has this rank in the group
+abbrev pub IsInGroup : Group → ℕ → ℕ → Type 0
+IsInGroup g rank i = (j : ℕ) × (g.first + j ≡ rank) × (slice_get g.rows.now j ≡ Some i)
+
 -- the rows of list `n` were added in groups
 pub record AddsGroups (ts : List TermAt) (n : ℕ) (wanted_type : Option ℕ)
     (groups groups' : List Group) : Type 0 where
   pub more : List Group
   pub groups_are : groups' ≡ groups ++ more
   pub only : (g : Group) → Has more g → (g.segment ≡ n)
-      × ((i : ℕ) → Has g.rows.now i → IsSized ts wanted_type g.len i)
-  pub all : (len i : ℕ) → IsSized ts wanted_type len i
-      → (g : Group) × Has more g × (g.len ≡ len) × Has g.rows.now i
+      × ((rank i : ℕ) → IsInGroup g rank i → IsSized ts wanted_type g.len rank i)
+  pub all : (len rank i : ℕ) → IsSized ts wanted_type len rank i
+      → (g : Group) × Has more g × (g.len ≡ len) × IsInGroup g rank i
 
 -- the groups are those of all lists
-pub record AreGroups (lists : List (List TermAt)) (wanted_type : Option ℕ) (groups : List Group)
+pub record AreGroups (splits : List Split) (wanted_type : Option ℕ) (groups : List Group)
     : Type 0 where
-  pub only : (g : Group) (i : ℕ) → Has groups g → Has g.rows.now i
-      → IsSizedIn lists wanted_type g.segment g.len i
-  pub all : (n len i : ℕ) → IsSizedIn lists wanted_type n len i
-      → (g : Group) × Has groups g × (g.segment ≡ n) × (g.len ≡ len) × Has g.rows.now i
+  pub only : (g : Group) (rank i : ℕ) → Has groups g → IsInGroup g rank i
+      → IsSizedIn splits wanted_type g.segment g.len rank i
+  pub all : (n len rank i : ℕ) → IsSizedIn splits wanted_type n len rank i
+      → (g : Group) × Has groups g × (g.segment ≡ n) × (g.len ≡ len) × IsInGroup g rank i
 
 -- what is read of a row of list `n` at this place, if its term has this length
 abbrev pub sized : ℕ → ℕ → RowPlace → Chosen
 sized n len at = record { segment = n; at = at; first = len; second = 0 }
 
--- a marked row among these that is current
-abbrev pub IsOfRows : List (List StampedRow) → AsOf → ℕ → ℕ → List ℕ → List Bool → Chosen
-    → Type 0
-IsOfRows lists as_of n len rows marks k = (i : ℕ) × Has rows i × IsMarked marks i
+-- a row among these that is current
+abbrev pub IsOfRows : List (List StampedRow) → AsOf → ℕ → ℕ → List ℕ → Chosen → Type 0
+IsOfRows lists as_of n len rows k = (i : ℕ) × Has rows i
     × IsPlaceOfRow lists n i k.at × IsCurrentAt lists as_of n k.at × (k ≡ sized n len k.at)
 
-abbrev pub IsOfGroup : List (List StampedRow) → AsOf → Group → List Bool → Chosen → Type 0
-IsOfGroup lists as_of g marks k = IsOfRows lists as_of g.segment g.len g.rows.now marks k
+-- the rows with these numbers in a list of them
+abbrev pub picked : List ℕ → List ℕ → List ℕ
+picked rows numbers = flat_map (λ j. option_to_list (slice_get rows j)) numbers
+
+-- the rows of the group that are marked
+abbrev pub hits : Group → List ℕ → List ℕ
+hits g marks = picked g.rows.now
+    (places_that (is_byte 1) (take (length g.rows.now) (drop g.first marks)))
+
+abbrev pub IsOfGroup : List (List StampedRow) → AsOf → Group → List ℕ → Chosen → Type 0
+IsOfGroup lists as_of g marks k = IsOfRows lists as_of g.segment g.len (hits g marks) k
 
 -- those of the rows were added
 pub record AddsRows (lists : List (List StampedRow)) (as_of : AsOf) (n len : ℕ) (rows : List ℕ)
-    (marks : List Bool) (kept kept' : List Chosen) : Type 0 where
+    (kept kept' : List Chosen) : Type 0 where
   pub more : List Chosen
   pub kept_are : kept' ≡ kept ++ more
-  pub only : (k : Chosen) → Has more k → IsOfRows lists as_of n len rows marks k
-  pub all : (k : Chosen) → IsOfRows lists as_of n len rows marks k → Has more k
+  pub only : (k : Chosen) → Has more k → IsOfRows lists as_of n len rows k
+  pub all : (k : Chosen) → IsOfRows lists as_of n len rows k → Has more k
 
-abbrev pub AddsRowsOf : List (List StampedRow) → AsOf → Group → List Bool → List Chosen
+abbrev pub AddsRowsOf : List (List StampedRow) → AsOf → Group → List ℕ → List Chosen
     → List Chosen → Type 0
 AddsRowsOf lists as_of g marks kept kept' =
-    AddsRows lists as_of g.segment g.len g.rows.now marks kept kept'
+    AddsRows lists as_of g.segment g.len (hits g marks) kept kept'
 
 -- those of the group were added, if its list has marks
 pub record AddsMarked (lists : List (List StampedRow)) (as_of : AsOf) (g : Group)
-    (marks : List (List Bool)) (kept kept' : List Chosen) : Type 0 where
-  pub some : (own : List Bool) → slice_get marks g.segment ≡ Some own
+    (marks : List (List ℕ)) (kept kept' : List Chosen) : Type 0 where
+  pub some : (own : List ℕ) → slice_get marks g.segment ≡ Some own
       → AddsRowsOf lists as_of g own kept kept'
   pub none : slice_get marks g.segment ≡ None → kept' ≡ kept
 
 -- a marked row of some group that is current
-abbrev pub IsOfSome : List (List StampedRow) → AsOf → List Group → List (List Bool) → Chosen
+abbrev pub IsOfSome : List (List StampedRow) → AsOf → List Group → List (List ℕ) → Chosen
     → Type 0
-IsOfSome lists as_of groups marks k = (g : Group) × Has groups g × (own : List Bool)
+IsOfSome lists as_of groups marks k = (g : Group) × Has groups g × (own : List ℕ)
     × (slice_get marks g.segment ≡ Some own) × IsOfGroup lists as_of g own k
 
 -- those rows are kept, each once
 pub record AreKept (lists : List (List StampedRow)) (as_of : AsOf) (groups : List Group)
-    (marks : List (List Bool)) (kept : List Chosen) : Type 0 where
+    (marks : List (List ℕ)) (kept : List Chosen) : Type 0 where
   pub only : (k : Chosen) → Has kept k → IsOfSome lists as_of groups marks k
   pub all : (k : Chosen) → IsOfSome lists as_of groups marks k → IsThere ranked_cmp kept k
 
 -- in order, those rows are kept; or at least `count` of them, and all others have longer terms
 pub record AreShortest (lists : List (List StampedRow)) (as_of : AsOf) (groups : List Group)
-    (marks : List (List Bool)) (count : ℕ) (kept : List Chosen) : Type 0 where
+    (marks : List (List ℕ)) (count : ℕ) (kept : List Chosen) : Type 0 where
   pub ascending : IsAscending ranked_cmp kept
   pub only : (k : Chosen) → Has kept k → IsOfSome lists as_of groups marks k
   pub all : (k : Chosen) → IsOfSome lists as_of groups marks k → IsThere ranked_cmp kept k

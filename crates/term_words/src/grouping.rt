@@ -1,20 +1,24 @@
 //! Rows in groups by the lengths of their terms.
 
 ghost use Rattle.std.specs.Prelude.{◌≡◌, ◌∷◌, [], IfOk, OnOk};
+ghost use Rattle.std.specs.List.{AllByRecursion};
 ghost use Rattle.std.specs.List.Sorted.{IsPermutation, IsNonDecreasingBy};
 ghost use Rattle.word_model.specs.Words.{is_of_type};
-ghost use Rattle.term_words.specs.Private.{AddsGroupsOf, AddsGroups, AreGroups};
+ghost use Rattle.term_words.specs.Private.{all_in, IsUsable, AddsGroupsOf, AddsGroups, AreGroups};
 
 use crate::keys::KeyAt;
 use crate::listing::Entry;
-use crate::sealed::{Sealed, measures, rows_of};
+use crate::ordered::Split;
+use crate::sealed::rows_of;
 use std::alloc::{AllocError, Global};
 
-/// Rows of one list, whose terms have the same length and type.
+/// Descriptions of one list, whose terms have the same length and type: the numbers of their rows.
+/// Their ranks are consecutive, from `first` on.
 #[derive(Clone, Copy)]
 pub(crate) struct Group<'a> {
     pub(crate) len: u32,
     pub(crate) segment: usize,
+    pub(crate) first: u32,
     pub(crate) rows: &'a [u32],
 }
 
@@ -46,6 +50,7 @@ fn add_group<'a>(
             groups.push(Group {
                 len: length,
                 segment,
+                first: e.first,
                 rows: rows_of(rows, e),
             })?;
             Ok(())
@@ -57,17 +62,17 @@ fn add_group<'a>(
 /// Adds the rows of a list in groups, those of the wanted type.
 fn add_groups<'a>(
     groups: &mut Vec<Group<'a>>,
-    list: &'a Sealed,
+    split: &Split<'a>,
     segment: usize,
     wanted_type: Option<u64>,
 ) -> Result<(), AllocError>
-    ensures { OnOk result (AddsGroups list.now segment wanted_type groups.old.items
-        groups.new.items) }
+    requires { IsUsable split.now }
+    ensures { OnOk result (AddsGroups (all_in split.now.sizes) segment wanted_type
+        groups.old.items groups.new.items) }
 {
-    let parts = list.parts();
-    let those = measures(parts.entries);
-    for e in those {
-        add_group(groups, parts.rows, e, segment, wanted_type)?;
+    let sizes = split.sizes;
+    for e in sizes.entries {
+        add_group(groups, sizes.rows, e, segment, wanted_type)?;
     }
     Ok(())
 }
@@ -81,17 +86,18 @@ fn sort_by_length(groups: &mut Vec<Group<'_>>)
 }
 
 /// The rows of all lists in groups, those of the wanted type, with the shortest terms first.
-pub(crate) fn groups_of(
+pub(crate) fn groups_of<'a>(
     alloc: Global,
-    lists: &[Sealed],
+    splits: &[Split<'a>],
     wanted_type: Option<u64>,
-) -> Result<Vec<Group<'_>>, AllocError>
-    ensures groups { IfOk result (λ groups. AreGroups lists.now wanted_type groups.items) }
+) -> Result<Vec<Group<'a>>, AllocError>
+    requires { AllByRecursion IsUsable splits.now }
+    ensures groups { IfOk result (λ groups. AreGroups splits.now wanted_type groups.items) }
     ensures sorted { IfOk result (λ groups. IsNonDecreasingBy (λ g. g.len) groups.items) }
 {
     let mut groups = Vec::new(alloc);
-    for (segment, list) in lists.iter().enumerate() {
-        add_groups(&mut groups, list, segment, wanted_type)?;
+    for (segment, split) in splits.iter().enumerate() {
+        add_groups(&mut groups, split, segment, wanted_type)?;
     }
     sort_by_length(&mut groups);
     Ok(groups)

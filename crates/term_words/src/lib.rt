@@ -13,6 +13,7 @@ pub mod laws;
 mod listing;
 mod marking;
 mod merging;
+mod ordered;
 mod postings;
 mod sealed;
 mod sealing;

@@ -3,7 +3,7 @@
 
 ghost use Rattle.std.specs.Prelude.{◌≡◌, ◌<◌, ◌^◌, ◌+◌, ◌++◌, ◌∷◌, [], List, length, IsTrue};
 ghost use Rattle.std.specs.Prelude.{OnOk, OnErr, slice_get, ◌≤◌, ℕ};
-ghost use Rattle.std.specs.Option.{option_copied};
+ghost use Rattle.std.specs.Option.{option_copied, option_map};
 ghost use Rattle.term_words.specs.Posted.{keyed};
 ghost use Rattle.term_words.specs.Laid.{postings_in};
 ghost use Rattle.term_words.specs.Private.Chains.{key_of, AreChained, AreEntries};
@@ -241,6 +241,16 @@ pub(crate) fn posting_at<'a>(
     }
 }
 
+/// The number of a row in a list of them, if it has as many.
+pub(crate) fn row_at(rows: &[u32], number: usize) -> Option<u32>
+    ensures { result ≡ slice_get rows.now number }
+{
+    if number >= rows.len() {
+        return None;
+    }
+    Some(rows[number])
+}
+
 impl Listing {
     /// No postings. Allocates nothing.
     pub(crate) fn new(alloc: Global) -> Listing
@@ -270,6 +280,13 @@ impl Listing {
         ensures { result ≡ length self.now }
     {
         self.rows.len()
+    }
+
+    /// The number of the row of the posting with this number, if there is one.
+    pub(crate) fn row(&self, number: usize) -> Option<u32>
+        ensures { result ≡ option_map (λ t. t.row) (slice_get self.now number) }
+    {
+        row_at(self.rows.as_slice(), number)
     }
 
     /// Adds a posting at the end. An `Err` changes nothing.

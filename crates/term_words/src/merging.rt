@@ -7,10 +7,10 @@ ghost use Rattle.term_prefix.specs.Merged.{IsMergeOfTerms, no_terms_merged, term
 ghost use Rattle.term_prefix.specs.Private.{first_taken, second_taken};
 ghost use Rattle.term_words.specs.Posted.{keyed};
 ghost use Rattle.term_words.specs.Private.Chains.{key_of};
-ghost use Rattle.term_words.specs.Private.{IsNext, SaysPosting};
+ghost use Rattle.term_words.specs.Private.{IsNext, SaysPlaced};
 
-use crate::keys::compare;
-use crate::listing::{Listing, Posting};
+use crate::keys::{Key, compare};
+use crate::ordered::{Ordered, Placed, noted_rank};
 use crate::sealed::Sealed;
 use as_of_index::{Numbers, TakenCount};
 use std::alloc::{AllocError, Global};
@@ -20,8 +20,8 @@ use std::marker::Model;
 /// The list from which the next posting is taken, and the posting.
 #[derive(Clone, Copy)]
 pub(crate) enum Next<'a> {
-    First(Posting<'a>),
-    Second(Posting<'a>),
+    First(Placed<'a>),
+    Second(Placed<'a>),
     Neither,
 }
 
@@ -29,10 +29,14 @@ pub(crate) enum Next<'a> {
 /// among the rows of both. Every call has to be given the same two lists and the same numbers.
 #[derive(Drop)]
 pub struct Merging {
-    list: Listing,
+    list: Ordered,
     taken: TakenCount,
     /// The entries of the postings that were taken last.
     near: TakenCount,
+    /// For each rank of the first list, the description's rank in the merged one.
+    first_ranks: Vec<u32>,
+    /// The same of the second list.
+    second_ranks: Vec<u32>,
 }
 
 impl Model for Merging {
@@ -48,8 +52,8 @@ impl Model for Merging {
 
 /// Which of two postings is taken next, if these are the next ones of both lists: the first one,
 /// unless its key is greater.
-fn next_of<'a>(first: Option<Posting<'a>>, second: Option<Posting<'a>>) -> Next<'a>
-    ensures { (a b : _) → SaysPosting a first.entry → SaysPosting b second.entry
+fn next_of<'a>(first: Option<Placed<'a>>, second: Option<Placed<'a>>) -> Next<'a>
+    ensures { (a b : _) → SaysPlaced a first.entry → SaysPlaced b second.entry
         → IsNext a b result }
 {
     match (first, second) {
@@ -63,6 +67,27 @@ fn next_of<'a>(first: Option<Posting<'a>>, second: Option<Posting<'a>>) -> Next<
     }
 }
 
+/// The rank in the merged list of a description whose posting by a word is taken. If it is the
+/// posting by its length, with this number, its rank is noted: the next one there.
+fn rank_of(
+    ranks: &mut Vec<u32>,
+    number: usize,
+    next: usize,
+    t: &Placed<'_>,
+) -> Result<u32, AllocError> {
+    match t.key {
+        Key::Measure { .. } => {
+            let Ok(rank) = u32::try_from(next) else {
+                return Err(AllocError);
+            };
+            ranks.truncate(number);
+            ranks.push(rank)?;
+            Ok(rank)
+        }
+        Key::Word(_) => Ok(noted_rank(ranks.as_slice(), t.rank)),
+    }
+}
+
 impl Merging {
     /// The beginning of a merge. Allocates nothing.
     pub fn new(alloc: Global) -> Merging
@@ -70,7 +95,7 @@ impl Merging {
         ensures merged { (lists : TwoLists) (a b : List TermAt) → IsMergeOfTerms lists a b result }
     {
         Merging {
-            list: Listing::new(alloc),
+            list: Ordered::new(alloc),
             taken: TakenCount {
                 first: 0,
                 second: 0,
@@ -79,6 +104,8 @@ impl Merging {
                 first: 0,
                 second: 0,
             },
+            first_ranks: Vec::new(alloc),
+            second_ranks: Vec::new(alloc),
         }
     }
 
@@ -106,14 +133,16 @@ impl Merging {
         &mut self,
         a: &Sealed,
         numbers: &Numbers<'_>,
-        t: Posting<'_>,
+        t: Placed<'_>,
     ) -> Result<(), AllocError>
         requires { slice_get a.now self.old.taken.first ≡ Some (keyed t.row (key_of t.key)) }
         ensures ok { OnOk result (self.new
             ≡ first_taken numbers.now (keyed t.entry.row (key_of t.entry.key)) self.old) }
         ensures err { OnErr result (self.new ≡ self.old) }
     {
-        self.list.push(t.key, numbers.of_first(t.row))?;
+        let number = self.taken.first;
+        let rank = rank_of(&mut self.first_ranks, number, self.list.len(), &t)?;
+        self.list.push(t.key, numbers.of_first(t.row), rank)?;
         // The contract of `len` says that the next number is one, too.
         let _many = a.list.len();
         let next = self.taken.first + 1;
@@ -127,14 +156,16 @@ impl Merging {
         &mut self,
         b: &Sealed,
         numbers: &Numbers<'_>,
-        u: Posting<'_>,
+        u: Placed<'_>,
     ) -> Result<(), AllocError>
         requires { slice_get b.now self.old.taken.second ≡ Some (keyed u.row (key_of u.key)) }
         ensures ok { OnOk result (self.new
             ≡ second_taken numbers.now (keyed u.entry.row (key_of u.entry.key)) self.old) }
         ensures err { OnErr result (self.new ≡ self.old) }
     {
-        self.list.push(u.key, numbers.of_second(u.row))?;
+        let number = self.taken.second;
+        let rank = rank_of(&mut self.second_ranks, number, self.list.len(), &u)?;
+        self.list.push(u.key, numbers.of_second(u.row), rank)?;
         // The contract of `len` says that the next number is one, too.
         let _many = b.list.len();
         let next = self.taken.second + 1;
@@ -160,7 +191,8 @@ impl Merging {
 
     /// Merges up to `n` more postings. Takes the time of at most `n` binary searches over the
     /// places, and of copying words, however long the lists are, and besides that the memory grows
-    /// as a vector does. It may be called again after an `Err`.
+    /// as a vector does; until it is sealed, 4 bytes more for each description. It may be called
+    /// again after an `Err`.
     pub fn advance(
         &mut self,
         a: &Sealed,

@@ -1,22 +1,24 @@
 //! Postings in the order of their keys.
 
-ghost use Rattle.std.specs.Prelude.{◌≡◌, ◌↔◌, ℕ, List, true, nat_eq, IsTrue};
+ghost use Rattle.std.specs.Prelude.{◌≡◌, ◌↔◌, nat_eq, IsTrue, IfOk};
 ghost use Rattle.std.specs.List.{starts_with};
 ghost use Rattle.std.specs.Ordering.{nat_cmp, is_lt};
 ghost use Rattle.std.specs.Cmp.Lexicographic.{slice_cmp};
 ghost use Rattle.history_model.specs.InOrder.{Has};
-ghost use Rattle.term_words.specs.Laid.{key_in, rows_of, postings_in};
+ghost use Rattle.term_words.specs.Laid.{key_in, rows_of};
 ghost use Rattle.term_words.specs.Private.Chains.{key_of};
-ghost use Rattle.term_words.specs.Private.{entry_keys, KeysRise, is_measure};
+ghost use Rattle.term_words.specs.Private.{entry_keys, KeysRise, PartsRise, IsSplit, AreSplit};
 
-use crate::keys::{Key, KeyAt, compare, is_same, key_in};
-use crate::listing::{Entry, Listing, Parts};
+use crate::keys::{Key, compare, key_in};
+use crate::listing::Entry;
+use crate::ordered::{Ordered, Split};
+use std::alloc::{AllocError, Global};
 use std::marker::Model;
 
 /// The postings of a list of rows, ascending by their keys.
 #[derive(Drop)]
 pub struct Sealed {
-    pub(crate) list: Listing,
+    pub(crate) list: Ordered,
 }
 
 impl Model for Sealed {
@@ -67,24 +69,6 @@ pub(crate) fn begun<'a>(text: &[u8], entries: &'a [Entry], prefix: Key<'_>) -> &
     &rest[..count]
 }
 
-fn is_measure(e: &Entry) -> bool
-    ensures { result ≡ is_measure e.now.key }
-{
-    match e.key {
-        KeyAt::Measure { .. } => true,
-        KeyAt::Word { .. } => false,
-    }
-}
-
-/// The entries by length and type, found by a binary search. The shortest come first.
-pub(crate) fn measures<'a>(entries: &'a [Entry]) -> &'a [Entry]
-    ensures { (text : List ℕ) → KeysRise (entry_keys text entries.now) → (e : Entry)
-        → Has result.now e ↔ (Has entries.now e × (is_measure e.key ≡ true)) }
-{
-    let count = entries.partition_point(|e| is_measure(e));
-    &entries[..count]
-}
-
 /// The numbers of the rows that have the entry's key.
 pub(crate) fn rows_of<'a>(rows: &'a [u32], e: &Entry) -> &'a [u32]
     ensures { result.now ≡ rows_of rows.now e.now }
@@ -105,10 +89,21 @@ pub(crate) fn rows_of<'a>(rows: &'a [u32], e: &Entry) -> &'a [u32]
 
 impl Sealed {
     /// What the postings are kept as.
-    pub(crate) fn parts(&self) -> Parts<'_>
-        ensures same { postings_in result.text.now result.entries.now result.rows.now ≡ self.now }
-        ensures rising { KeysRise (entry_keys result.text.now result.entries.now) }
+    pub(crate) fn split(&self) -> Split<'_>
+        ensures split { IsSplit self.now result }
+        ensures rising { PartsRise result.words }
     {
-        self.list.parts()
+        self.list.split()
     }
+}
+
+/// What the postings of all lists are kept as.
+pub(crate) fn splits_of(alloc: Global, lists: &[Sealed]) -> Result<Vec<Split<'_>>, AllocError>
+    ensures { IfOk result (λ all. AreSplit lists.now all.items) }
+{
+    let mut all = Vec::with_capacity(alloc, lists.len())?;
+    for list in lists {
+        all.push(list.split())?;
+    }
+    Ok(all)
 }

@@ -11,15 +11,17 @@ ghost use Rattle.as_of_index.specs.Places.{Lists};
 ghost use Rattle.as_of_index.specs.Private.Chosen.{ranked_cmp};
 ghost use Rattle.as_of_index.specs.Private.Once.{AreOnce};
 ghost use Rattle.term_words.specs.Posted.{ArePosted};
-ghost use Rattle.term_words.specs.Private.{AddsRows, AddsRowsOf, AddsMarked, SaysEnough};
+ghost use Rattle.term_words.specs.Private.{AddsRows, AddsRowsOf, AddsMarked, SaysEnough, picked};
 ghost use Rattle.term_words.specs.Private.{AreShortest, StandFor};
 
 use crate::WordLists;
 use crate::grouping::{Group, groups_of};
-use crate::marking::{is_marked, marks_at, marks_of};
-use crate::sealed::Sealed;
+use crate::listing::row_at;
+use crate::marking::{MARK, marks_at, marks_of};
+use crate::sealed::{Sealed, splits_of};
 use crate::splitting::words_of;
 use as_of_index::{AsOf, Chosen, Index, ReadFault, RowReader, read_all};
+use memchr::memchr_iter;
 use rf2_values::Row;
 use std::alloc::{AllocError, Global};
 use std::cmp::Ordering;
@@ -34,22 +36,18 @@ pub struct WordSearch {
     pub limit: u32,
 }
 
-/// Adds a row of a group, if it is marked and current.
+/// Adds a row of a group, if it is current.
 fn add_row(
     kept: &mut Vec<Chosen>,
     group: &Group<'_>,
     row: u32,
-    marks: &[bool],
     index: &Index,
     as_of: &AsOf,
 ) -> Result<(), AllocError>
     ensures { OnOk result ((lists : List (List StampedRow)) → Lists index.now lists
-        → AddsRows lists as_of.now group.now.segment group.now.len (row ∷ []) marks.now
+        → AddsRows lists as_of.now group.now.segment group.now.len (row ∷ [])
         kept.old.items kept.new.items) }
 {
-    if !is_marked(marks, row) {
-        return Ok(());
-    }
     match index.current_at(group.segment, row, *as_of) {
         Some(at) => {
             kept.push(Chosen {
@@ -64,19 +62,55 @@ fn add_row(
     }
 }
 
+/// Adds the row with this number in a group, if there is one and it is current.
+fn add_at(
+    kept: &mut Vec<Chosen>,
+    group: &Group<'_>,
+    number: usize,
+    index: &Index,
+    as_of: &AsOf,
+) -> Result<(), AllocError>
+    ensures { OnOk result ((lists : List (List StampedRow)) → Lists index.now lists
+        → AddsRows lists as_of.now group.now.segment group.now.len
+        (picked group.now.rows.now (number ∷ [])) kept.old.items kept.new.items) }
+{
+    match row_at(group.rows, number) {
+        Some(row) => add_row(kept, group, row, index, as_of),
+        None => Ok(()),
+    }
+}
+
+/// A part of marks: those of `count` descriptions from this rank on, or of as many as there are.
+fn marks_from(marks: &[u8], first: u32, count: usize) -> &[u8]
+    ensures { result.now ≡ take count (drop first marks.now) }
+{
+    let first = first as usize;
+    if first < marks.len() {
+        let rest = &marks[first..];
+        if count < rest.len() {
+            &rest[..count]
+        } else {
+            rest
+        }
+    } else {
+        &[]
+    }
+}
+
 /// Adds those of a group's rows that are marked and current.
 fn add_rows(
     kept: &mut Vec<Chosen>,
     group: &Group<'_>,
-    marks: &[bool],
+    marks: &[u8],
     index: &Index,
     as_of: &AsOf,
 ) -> Result<(), AllocError>
     ensures { OnOk result ((lists : List (List StampedRow)) → Lists index.now lists
         → AddsRowsOf lists as_of.now group.now marks.now kept.old.items kept.new.items) }
 {
-    for row in group.rows {
-        add_row(kept, group, *row, marks, index, as_of)?;
+    let own = marks_from(marks, group.first, group.rows.len());
+    for number in memchr_iter(MARK, own) {
+        add_at(kept, group, number, index, as_of)?;
     }
     Ok(())
 }
@@ -85,7 +119,7 @@ fn add_rows(
 fn add_marked(
     kept: &mut Vec<Chosen>,
     group: &Group<'_>,
-    marks: &[Vec<bool>],
+    marks: &[Vec<u8>],
     index: &Index,
     as_of: &AsOf,
 ) -> Result<(), AllocError>
@@ -140,7 +174,7 @@ fn is_enough(kept: &mut Vec<Chosen>, count: usize, last: u32, next: u32) -> bool
 fn shortest(
     alloc: Global,
     groups: &[Group<'_>],
-    marks: &[Vec<bool>],
+    marks: &[Vec<u8>],
     index: &Index,
     as_of: &AsOf,
     count: usize,
@@ -198,8 +232,9 @@ fn found(
     // The contract of `lists` says that no key is listed twice.
     let _listed = index.lists();
     let wanted = words_of(alloc, text)?;
-    let marks = marks_of(alloc, lists, index, &wanted)?;
-    let groups = groups_of(alloc, lists, search.wanted_type)?;
+    let splits = splits_of(alloc, lists)?;
+    let marks = marks_of(alloc, splits.as_slice(), &wanted)?;
+    let groups = groups_of(alloc, splits.as_slice(), search.wanted_type)?;
     let count = search.offset as usize + search.limit as usize;
     shortest(
         alloc,
@@ -214,9 +249,9 @@ fn found(
 /// The active descriptions at the date, of the wanted type if one is given, for which each word of
 /// the text begins a word of the term, among the rows that the pin shows: by the length of the
 /// term, then by id, `limit` of them after the first `offset`. It looks at each posting of a word
-/// that begins so, and at the rows of descriptions by the lengths of their terms until it has
+/// that begins so, and at one byte for each description, the shortest terms first, until it has
 /// enough; for each of these that has the words it makes a binary search in each list of the index.
-/// No row is read but those that are returned. It needs memory for two bytes a row of the index.
+/// No row is read but those that are returned. It needs memory for two bytes a description.
 pub fn find<R: RowReader>(
     alloc: Global,
     words: &WordLists,
