@@ -12,12 +12,8 @@ use Rattle.as_of_index.specs.Private.Search.{SplitsAt}
 use Rattle.as_of_index.proofs.First.{Falls}
 use Rattle.term_prefix.specs.Terms.{TermAt}
 use Rattle.term_prefix.proofs.Prefixed.{begins_above, between}
-use Rattle.term_words.specs.declared.keys.KeyAt.{KeyAt}
-use Rattle.term_words.specs.declared.keys.KeyAt.TheVariants as places
-use Rattle.term_words.specs.declared.listing.Entry.{Entry}
 use Rattle.term_words.specs.Posted.{keyed}
-use Rattle.term_words.specs.Laid.{key_in}
-use Rattle.term_words.specs.Private.{KeysRise, entry_keys, is_measure}
+use Rattle.term_words.specs.Private.{KeysRise}
 
 module _ {X : Type 0} (f : X → List ℕ) (prefix : List ℕ) where
   abbrev pub is_under : X → Bool
@@ -67,30 +63,3 @@ module _ {X : Type 0} (f : X → List ℕ) (prefix : List ℕ) where
         | inr g ↦ absurd (let gt = Has-all (λ y. begins_so y ≡ false) (drop count (drop first xs)) x high.rest g in let z = sym e ∙ gt in cc)
       ]
     ]
-
--- ---- keys by length and type come before words
-
-kinds : (text : List ℕ) (k m : KeyAt) → is_lt (slice_cmp nat_cmp (key_in text m) (key_in text k)) ≡ false → is_measure m ≡ true → is_measure k ≡ true
-kinds text (places.Measure len type_id) m h e = refl
-kinds text (places.Word start len) (places.Measure length type_id) h e = absurd cc
-kinds text (places.Word start len) (places.Word first count) h e = absurd cc
-
-measure-each : (text : List ℕ) (x : Entry) (ys : List Entry) → AllByRecursion (λ (u : TermAt). is_lt (slice_cmp nat_cmp u.folded (key_in text x.key)) ≡ false) (map (keyed 0) (entry_keys text ys)) → AllByRecursion (λ (y : Entry). is_measure y.key ≡ true → is_measure x.key ≡ true) ys
-measure-each text x [] a = tt
-measure-each text x (y ∷ ys) a = (kinds text x.key y.key a.0, measure-each text x ys a.1)
-
-abbrev pub of_measure : Entry → Bool
-of_measure e = is_measure e.key
-
-pub measure-falls : (text : List ℕ) (xs : List Entry) → KeysRise (entry_keys text xs) → Falls of_measure xs
-measure-falls text [] up = tt
-measure-falls text (x ∷ xs) up = (measure-each text x xs up.0, measure-falls text xs up.1)
-
-pub measured_front : (xs : List Entry) (count : ℕ) (e : Entry) → SplitsAt of_measure xs count → (Has (take count xs) e → Has xs e × (is_measure e.key ≡ true)) × (Has xs e × (is_measure e.key ≡ true) → Has (take count xs) e)
-measured_front xs count e split = (
-  λ h. (subst (λ ys. Has ys e) (take-append-drop count xs) (Has-append_left (take count xs) (drop count xs) e h), Has-all (λ (x : Entry). of_measure x ≡ true) (take count xs) e split.before h),
-  λ h. elim (Has-append_cases (take count xs) (drop count xs) e (subst (λ ys. Has ys e) (sym (take-append-drop count xs)) h.0)) [
-    | inl l ↦ l
-    | inr r ↦ absurd (let no = Has-all (λ (x : Entry). of_measure x ≡ false) (drop count xs) e split.rest r in let z = sym h.1 ∙ no in cc)
-  ],
-)

@@ -100,13 +100,13 @@ get-append_right (x ∷ xs) ys j (suc n) e =
     let size : length xs ≡ n = omega (arith, e) in
     ap (slice_get (x ∷ (xs ++ ys))) shift ∙ get-append_right xs ys j n size
 
-get-take : {X : Type 0} (xs : List X) (n i : ℕ) → i < n → slice_get (take n xs) i ≡ slice_get xs i
+pub get-take : {X : Type 0} (xs : List X) (n i : ℕ) → i < n → slice_get (take n xs) i ≡ slice_get xs i
 get-take xs zero i lt = absurd (omega arith)
 get-take [] (suc n) i lt = refl
 get-take (x ∷ xs) (suc n) zero lt = refl
 get-take (x ∷ xs) (suc n) (suc i) lt = get-take xs n i (omega arith)
 
-get-drop : {X : Type 0} (xs : List X) (n j : ℕ) → slice_get (drop n xs) j ≡ slice_get xs (n + j)
+pub get-drop : {X : Type 0} (xs : List X) (n j : ℕ) → slice_get (drop n xs) j ≡ slice_get xs (n + j)
 get-drop xs zero j = ap (slice_get xs) (omega arith)
 get-drop [] (suc n) j = refl
 get-drop (x ∷ xs) (suc n) j =

@@ -45,8 +45,14 @@ use Rattle.as_of_index.proofs.Numbered.{stands_there, place_of_row}
 use Rattle.as_of_index.proofs.Pushing.{stands, posting_there, posted_as}
 use Rattle.term_prefix.specs.Terms.{TermAt}
 use Rattle.term_words.specs.declared.grouping.Group.{Group}
+use Rattle.term_words.specs.declared.listing.Parts.{Parts}
+use Rattle.term_words.specs.declared.ordered.Split.{Split}
 use Rattle.term_words.specs.Posted.{ArePosted, posted_words, keyed, keys_of, measure_key, word_key}
-use Rattle.term_words.specs.Private.{IsBegun, IsMarked, AreMarked, EachMarked, IsSized, IsSizedIn, AreGroups, sized, IsOfGroup, IsOfSome, AreShortest}
+use Rattle.term_words.specs.Private.{all_in, AreStored, AreSplit, IsBegun, IsMarked, EachMarked, AreGroups, sized, IsOfSome, AreShortest}
+use Rattle.term_words.proofs.Chained.{postings-count}
+use Rattle.term_words.proofs.Splits.{split_of, list_of, size_has, begun_row, sized_rank, word_rank}
+use Rattle.term_words.proofs.Once.{one_rank, rows_at_number}
+use Rattle.term_words.proofs.Places.{hit_marked, marked_hit}
 
 -- ---- orders
 
@@ -284,10 +290,17 @@ from_numbered k (suc n) (us ∷ terms) x h e = elim (Has-append_cases (map (λ (
   | inr r ↦ from_numbered (k + 1) n terms x r (omega (arith, e))
 ]
 
+-- a rank is below the count of the rows that are stored
+within_rows : (p : Parts) (rank : ℕ) (t : TermAt) → AreStored p → slice_get (all_in p) rank ≡ Some t → rank < length p.rows.now
+within_rows p rank t are e =
+    let lt = slice_get_within (all_in p) rank t e in
+    let many = postings-count p.text.now p.rows.now 0 p.entries.now (length p.rows.now) are.chained (omega arith) in
+    omega (arith, lt, many)
+
 -- ---- the rows that are kept
 
-module _ (lists : List (List StampedRow)) (are : ArePlaces (map places_of lists)) (posted : List (List TermAt)) (posts : ArePosted lists posted) (as_of : AsOf) (wanted_type : Option ℕ) (text : List ℕ) (groups : List Group) (marks : List (List Bool))
-    (marked : EachMarked (map places_of lists) posted (map word_key (words text)) marks) (grouped : AreGroups posted wanted_type groups) where
+module _ (lists : List (List StampedRow)) (are : ArePlaces (map places_of lists)) (posted : List (List TermAt)) (posts : ArePosted lists posted) (as_of : AsOf) (wanted_type : Option ℕ) (text : List ℕ) (groups : List Group) (marks : List (List ℕ)) (splits : List Split) (split_so : AreSplit posted splits)
+    (marked : EachMarked splits (map word_key (words text)) marks) (grouped : AreGroups splits wanted_type groups) where
   abbrev test : RowValue → Bool
   test = has_words wanted_type (words text)
 
@@ -311,29 +324,33 @@ module _ (lists : List (List StampedRow)) (are : ArePlaces (map places_of lists)
       let g = w.0 in
       let own = w.2 in
       let i = w.4.0 in
-      let sized_in = grouped.only g i w.1 w.4.1 in
-      let ts = sized_in.0 in
+      let hit = hit_marked g own i w.4.1 in
+      let rank = hit.0 in
+      let sized_in = grouped.only g rank i w.1 hit.1 in
+      let parts = sized_in.0 in
       let type_id = sized_in.2.0 in
       let t = keyed i (measure_key g.len type_id) in
-      let row = row_of g.segment ts t sized_in.1 sized_in.2.1 in
+      let listed_so = list_of posted splits g.segment parts split_so sized_in.1 in
+      let ts = listed_so.0 in
+      let row = row_of g.segment ts t listed_so.1 (size_has ts parts listed_so.2 rank t sized_in.2.1) in
       let s = row.0 in
-      let m = marked g.segment ts sized_in.1 in
+      let m = marked g.segment parts sized_in.1 in
       let same : m.0 ≡ own = same_Some m.0 own (sym m.1 ∙ w.3) in
-      let mark = (m.2.marked i).0 (subst (λ ms. IsMarked ms i) (sym same) w.4.2) in
-      let stands_at : StandsAt lists g.segment k.at s = stands_there lists g.segment i s k.at row.1 w.4.3 in
-      let segment_is : k.segment ≡ g.segment = ap (λ (j : Chosen). j.segment) w.4.5 in
-      let first_is : k.first ≡ g.len = ap (λ (j : Chosen). j.first) w.4.5 in
+      let mark = (m.2.marked rank).0 (subst (λ ms. IsMarked ms rank) (sym same) hit.2) in
+      let stands_at : StandsAt lists g.segment k.at s = stands_there lists g.segment i s k.at row.1 w.4.2 in
+      let segment_is : k.segment ≡ g.segment = ap (λ (j : Chosen). j.segment) w.4.4 in
+      let first_is : k.first ≡ g.len = ap (λ (j : Chosen). j.first) w.4.4 in
       record {
         s = s;
         stands_so = subst (λ n. StandsAt lists n k.at s) (sym segment_is) stands_at;
         active = row.2.active;
         says = subst (λ n. Says wanted_type (words text) n s.row.body) (sym first_is) (says_all wanted_type (words text) g.len type_id s.row.body (measured g.len type_id s.row.body row.2.key) sized_in.2.2 (λ word h.
-            let begun = mark.1 (word_key word) (Has-map_from word_key (words text) word h) in
-            let other = row_of g.segment ts begun.0 sized_in.1 begun.1 in
+            let begun = begun_row ts parts listed_so.2 rank i (measure_key g.len type_id) (word_key word) sized_in.2.1 (mark.1 (word_key word) (Has-map_from word_key (words text) word h)) in
+            let other = row_of g.segment ts begun.0 listed_so.1 begun.1 in
             let one : other.0 ≡ s = same_Some other.0 s (sym other.1 ∙ ap (item_at lists g.segment) begun.2 ∙ row.1) in
             begun_from word begun.0.folded s.row.body (subst (λ (z : StampedRow). Has (keys_of z.row.body) begun.0.folded) one other.2.key) begun.3));
-        second = ap (λ (j : Chosen). j.second) w.4.5;
-        current = subst (λ n. IsCurrentAt lists as_of n k.at) (sym segment_is) w.4.4;
+        second = ap (λ (j : Chosen). j.second) w.4.4;
+        current = subst (λ n. IsCurrentAt lists as_of n k.at) (sym segment_is) w.4.3;
       }
 
   -- ---- and where a row that has the words is kept
@@ -375,19 +392,28 @@ module _ (lists : List (List StampedRow)) (are : ArePlaces (map places_of lists)
       let number : n ≡ 0 + n = omega arith in
       let key_there : (key : List ℕ) → Has (keys_of row.body) key → (ts : List TermAt) × (slice_get posted n ≡ Some ts) × Has ts (keyed i key) =
       λ key k. from_numbered 0 n posted (n, keyed i key) (posting_there posted_words lists posted posts n i s p.row_there (keyed i key) (key_posted s.row i key active (subst (λ (z : RowValue). Has (keys_of z.body) key) (sym p.same) k))) number in
-      let own = key_there (measure_key (term_length row.body) keys.type_id) keys.measure in
+      let size_is = measure_key (term_length row.body) keys.type_id in
+      let own = key_there size_is keys.measure in
       let ts = own.0 in
-      let g = grouped.all n (term_length row.body) i (ts, own.1, (keys.type_id, own.2, keys.of_type)) in
+      let parts = split_of posted splits n ts split_so own.1 in
+      let is = parts.2 in
+      let sized_at = sized_rank ts parts.0 is i (term_length row.body) keys.type_id own.2 in
+      let rank = sized_at.0 in
+      let g = grouped.all n (term_length row.body) rank i (parts.0, parts.1, (keys.type_id, sized_at.1, keys.of_type)) in
       let at = place_of_row lists n i s p.row_there in
-      let m = marked n ts own.1 in
-      let mark : IsMarked m.0 i = (m.2.marked i).1 (
-        slice_get_within (slice_index_or (map places_of lists) n []) i at.0 at.1,
+      let m = marked n parts.0 parts.1 in
+      let source = rows_at_number lists posted n ts posts own.1 in
+      let within : rank < length parts.0.sizes.rows.now = within_rows parts.0.sizes rank (keyed i size_is) is.sizes_are sized_at.1 in
+      let mark : IsMarked m.0 rank = (m.2.marked rank).1 (
+        within,
         λ prefix k.
             let word = Has-map word_key (words text) prefix k in
             let begun = keys.begun word.0 word.1 in
             let there = key_there begun.0 begun.1 in
             let same : there.0 ≡ ts = same_Some there.0 ts (sym there.1 ∙ own.1) in
-            (keyed i begun.0, subst (λ us. Has us (keyed i begun.0)) same there.2, refl, subst (λ key. starts_with nat_eq begun.0 key ≡ true) word.2 begun.2),
+            let found = word_rank ts parts.0 is i word.0 begun.0 (subst (λ us. Has us (keyed i begun.0)) same there.2) begun.2 in
+            let one : found.0 ≡ rank = one_rank i source.0 ts parts.0 found.0 rank found.1 (keyed i size_is) source.1 is found.2 sized_at.1 found.3 refl in
+            subst (λ q. IsBegun (all_in parts.0.words) q rank) word.2 (subst (IsBegun (all_in parts.0.words) (word_key word.0)) one found.4),
       ) in
       let stands_at : StandsAt lists n at.0 s = stands_there lists n i s at.0 p.row_there at.1 in
       let key_is : at.0.key ≡ key_of row = (standing_row lists are n at.0 s stands_at).1 ∙ ap key_of p.same in
@@ -401,7 +427,7 @@ module _ (lists : List (List StampedRow)) (are : ArePlaces (map places_of lists)
           g.1,
           m.0,
           ap (slice_get marks) segment_is ∙ m.1,
-          (i, g.4, mark, subst (λ n. IsPlaceOfRow lists n i at.0) (sym segment_is) at.1, subst (λ n. IsCurrentAt lists as_of n at.0) (sym segment_is) now.1, refl),
+          (i, marked_hit g.0 m.0 rank i g.4 mark, subst (λ n. IsPlaceOfRow lists n i at.0) (sym segment_is) at.1, subst (λ n. IsCurrentAt lists as_of n at.0) (sym segment_is) now.1, refl),
         );
         s = s;
         stands_so = subst (λ n. StandsAt lists n at.0 s) (sym segment_is) stands_at;

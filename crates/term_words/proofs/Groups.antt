@@ -1,5 +1,5 @@
 -- Rows in groups by the lengths of their terms.
-use Rattle.std.proofs.Common.{◌≡◌, ◌⊎◌, ℕ, zero, suc, ◌+◌, ◌<◌, ◌≤◌, Bool, true, false, List, [], ◌∷◌, ◌++◌, length, get_or, take, map, refl, sym, ap, subst, inl, inr, ◌∙◌, arith, append-nil, append_assoc}
+use Rattle.std.proofs.Common.{◌≡◌, ◌⊎◌, ℕ, zero, suc, ◌+◌, ◌-◌, ◌<◌, ◌≤◌, Bool, true, false, List, [], ◌∷◌, ◌++◌, length, get_or, take, map, refl, sym, ap, subst, inl, inr, ◌∙◌, arith, append-nil, append_assoc}
 use Rattle.std.specs.Prelude.{Option, Some, None, slice_get}
 use Rattle.std.specs.List.Sorted.{IsPermutation}
 use Rattle.std.proofs.lemmas.List.{take_more, length-take-le}
@@ -14,16 +14,18 @@ use Rattle.term_words.specs.declared.grouping.Group.{Group}
 use Rattle.term_words.specs.declared.keys.KeyAt.{KeyAt}
 use Rattle.term_words.specs.declared.keys.KeyAt.TheVariants as places
 use Rattle.term_words.specs.declared.listing.Entry.{Entry}
+use Rattle.term_words.specs.declared.ordered.Split.{Split}
 use Rattle.term_words.specs.Posted.{keyed, measure_key}
 use Rattle.term_words.specs.Laid.{key_in, rows_of, postings_in}
-use Rattle.term_words.specs.Private.{is_measure, IsSized, IsSizedIn, IsGroupOf, AddsGroupsOf, AddsGroups, AreGroups}
-use Rattle.term_words.proofs.Entries.{posting_entry, entry_posting}
+use Rattle.term_words.specs.Private.Chains.{AreEntries}
+use Rattle.term_words.specs.Private.{all_in, IsSized, IsGroupOf, IsInGroup, AddsGroupsOf, AddsGroups, AreGroups}
+use Rattle.term_words.proofs.Chained.{HasPosting, posting-of, row-posted}
 
 -- the groups of the first lists
 pub groups_none : (wanted_type : Option ℕ) → AreGroups [] wanted_type []
-groups_none wanted_type = record { only = λ g i h. absurd h; all = λ n len i w. absurd (none n w.0 w.1) } where
-  none : (n : ℕ) (ts : List TermAt) → slice_get [] n ≡ Some ts → ⊥
-  none n ts e = absurd cc
+groups_none wanted_type = record { only = λ g rank i h. absurd h; all = λ n len rank i w. absurd (none n w.0 w.1) } where
+  none : (n : ℕ) (s : Split) → slice_get [] n ≡ Some s → ⊥
+  none n s e = absurd cc
 
 pub get_first : {X : Type 0} (xs ys : List X) (n : ℕ) (x : X) → slice_get xs n ≡ Some x → slice_get (xs ++ ys) n ≡ Some x
 get_first [] ys n x e = absurd cc
@@ -41,32 +43,32 @@ get_cases [] y (suc n) x e = absurd cc
 get_cases (z ∷ xs) y zero x e = inl e
 get_cases (z ∷ xs) y (suc n) x e = elim (get_cases xs y n x e) [ inl l ↦ inl l | inr r ↦ inr (ap suc r.0, r.1) ]
 
-pub groups_more : (lists : List (List TermAt)) (ts : List TermAt) (wanted_type : Option ℕ) (groups groups' : List Group) → AreGroups lists wanted_type groups → AddsGroups ts (length lists) wanted_type groups groups' → AreGroups (lists ++ ts ∷ []) wanted_type groups'
-groups_more lists ts wanted_type groups groups' a adds =
-    subst (λ gs. AreGroups (lists ++ ts ∷ []) wanted_type gs) (sym adds.groups_are) (record {
-      only = λ g i h k. elim (Has-append_cases groups adds.more g h) [
-        | inl l ↦ (let w = a.only g i l k in (w.0, get_first lists (ts ∷ []) g.segment w.0 w.1, w.2))
-        | inr r ↦ (let w = adds.only g r in (ts, ap (slice_get (lists ++ ts ∷ [])) w.0 ∙ get_last lists ts, w.1 i k))
+pub groups_more : (splits : List Split) (s : Split) (wanted_type : Option ℕ) (groups groups' : List Group) → AreGroups splits wanted_type groups → AddsGroups (all_in s.sizes) (length splits) wanted_type groups groups' → AreGroups (splits ++ s ∷ []) wanted_type groups'
+groups_more splits s wanted_type groups groups' a adds =
+    subst (λ gs. AreGroups (splits ++ s ∷ []) wanted_type gs) (sym adds.groups_are) (record {
+      only = λ g rank i h k. elim (Has-append_cases groups adds.more g h) [
+        | inl l ↦ (let w = a.only g rank i l k in (w.0, get_first splits (s ∷ []) g.segment w.0 w.1, w.2))
+        | inr r ↦ (let w = adds.only g r in (s, ap (slice_get (splits ++ s ∷ [])) w.0 ∙ get_last splits s, w.1 rank i k))
       ];
-      all = λ n len i w. elim (get_cases lists ts n w.0 w.1) [
-        | inl l ↦ (let g = a.all n len i (w.0, l, w.2) in (g.0, Has-append_left groups adds.more g.0 g.1, g.2, g.3, g.4))
+      all = λ n len rank i w. elim (get_cases splits s n w.0 w.1) [
+        | inl l ↦ (let g = a.all n len rank i (w.0, l, w.2) in (g.0, Has-append_left groups adds.more g.0 g.1, g.2, g.3, g.4))
         | inr r ↦ (
-            let g = adds.all len i (subst (λ us. IsSized us wanted_type len i) (sym r.1) w.2) in
+            let g = adds.all len rank i (subst (λ (x : Split). IsSized (all_in x.sizes) wanted_type len rank i) (sym r.1) w.2) in
             (g.0, Has-append_right groups adds.more g.0 g.1, (adds.only g.0 g.1).0 ∙ sym r.0, g.2, g.3))
       ];
     })
 
-pub groups_after : (lists : List (List TermAt)) (i : ℕ) (list d : List TermAt) (wanted_type : Option ℕ) (groups groups' : List Group) → i < length lists → list ≡ get_or lists i d → AreGroups (take i lists) wanted_type groups → AddsGroups list i wanted_type groups groups' → AreGroups (take (i + 1) lists) wanted_type groups'
-groups_after lists i list d wanted_type groups groups' lt is a adds =
-    let size : length (take i lists) ≡ i = length-take-le i lists (omega arith) in
-    subst (λ xs. AreGroups xs wanted_type groups') (ap (λ x. take i lists ++ x ∷ []) is ∙ sym (take_more lists i d lt))
-    (groups_more (take i lists) list wanted_type groups groups' a (subst (λ n. AddsGroups list n wanted_type groups groups') (sym size) adds))
+pub groups_after : (splits : List Split) (i : ℕ) (s d : Split) (wanted_type : Option ℕ) (groups groups' : List Group) → i < length splits → s ≡ get_or splits i d → AreGroups (take i splits) wanted_type groups → AddsGroups (all_in s.sizes) i wanted_type groups groups' → AreGroups (take (i + 1) splits) wanted_type groups'
+groups_after splits i s d wanted_type groups groups' lt is a adds =
+    let size : length (take i splits) ≡ i = length-take-le i splits (omega arith) in
+    subst (λ xs. AreGroups xs wanted_type groups') (ap (λ x. take i splits ++ x ∷ []) is ∙ sym (take_more splits i d lt))
+    (groups_more (take i splits) s wanted_type groups groups' a (subst (λ n. AddsGroups (all_in s.sizes) n wanted_type groups groups') (sym size) adds))
 
 -- the order of groups doesn't matter
-pub groups_moved : (lists : List (List TermAt)) (wanted_type : Option ℕ) (groups groups' : List Group) → AreGroups lists wanted_type groups → IsPermutation groups groups' → AreGroups lists wanted_type groups'
-groups_moved lists wanted_type groups groups' a moved = record {
-  only = λ g i h k. a.only g i (Has-permuted groups groups' moved g h) k;
-  all = λ n len i w. (let g = a.all n len i w in (g.0, Has-permuted groups' groups (IsPermutation-sym groups groups' moved) g.0 g.1, g.2, g.3, g.4));
+pub groups_moved : (splits : List Split) (wanted_type : Option ℕ) (groups groups' : List Group) → AreGroups splits wanted_type groups → IsPermutation groups groups' → AreGroups splits wanted_type groups'
+groups_moved splits wanted_type groups groups' a moved = record {
+  only = λ g rank i h k. a.only g rank i (Has-permuted groups groups' moved g h) k;
+  all = λ n len rank i w. (let g = a.all n len rank i w in (g.0, Has-permuted groups' groups (IsPermutation-sym groups groups' moved) g.0 g.1, g.2, g.3, g.4));
 }
 
 -- ---- the groups of entries
@@ -126,15 +128,11 @@ measure_from text (places.Measure a b) len type_id e =
     λ i. places.Measure (first i) (second i)
 measure_from text (places.Word start count) len type_id e = absurd (let first : 1 ≡ 0 = ap (λ (xs : List ℕ). get_or xs 0 0) e in omega (arith, first))
 
-is_one : (k : KeyAt) (len type_id : ℕ) → k ≡ places.Measure len type_id → is_measure k ≡ true
-is_one k len type_id e = ap is_measure e
-
 same_len : (k : KeyAt) (a b len type_id : ℕ) → k ≡ places.Measure a b → k ≡ places.Measure len type_id → a ≡ len
 same_len k a b len type_id e f = let both = sym e ∙ f in cc
 
-pub groups_of_those : (text rows : List ℕ) (entries those : List Entry) (ts : List TermAt) (n : ℕ) (wanted_type : Option ℕ) (groups groups' : List Group) → postings_in text entries rows ≡ ts → ((e : Entry) → (Has those e → Has entries e × (is_measure e.key ≡ true)) × (Has entries e × (is_measure e.key ≡ true) → Has those e))
-    → AddsGroupsOf rows n wanted_type those groups groups' → AddsGroups ts n wanted_type groups groups'
-groups_of_those text rows entries those ts n wanted_type groups groups' are which adds = record {
+pub groups_of_all : (text rows : List ℕ) (entries : List Entry) (n : ℕ) (wanted_type : Option ℕ) (groups groups' : List Group) → AreEntries text entries rows → AddsGroupsOf rows n wanted_type entries groups groups' → AddsGroups (postings_in text entries rows) n wanted_type groups groups'
+groups_of_all text rows entries n wanted_type groups groups' are adds = record {
   more = adds.more;
   groups_are = adds.groups_are;
   only = λ g h.
@@ -142,16 +140,24 @@ groups_of_those text rows entries those ts n wanted_type groups groups' are whic
       let e = w.0 in
       let of = w.2 in (
         of.segment_is,
-        λ i k. (
+        λ rank i k. (
           of.type_id,
-          subst (λ us. Has us (keyed i (measure_key g.len of.type_id))) are (subst (λ key. Has (postings_in text entries rows) (keyed i (key_in text key))) of.key_is (entry_posting text rows entries e i ((which e).0 w.1).0 (subst (λ rs. Has rs i) of.rows_are k))),
+          ap (slice_get (postings_in text entries rows)) (sym k.1 ∙ ap (λ m. m + k.0) of.first_is)
+              ∙ row-posted text rows entries e k.0 i are w.1 (ap (λ rs. slice_get rs k.0) (sym of.rows_are) ∙ k.2)
+              ∙ ap (λ key. Some (keyed i (key_in text key))) of.key_is,
           of.of_type,
         ),
       );
-  all = λ len i w.
-      let p = posting_entry text rows entries (keyed i (measure_key len w.0)) (subst (λ us. Has us (keyed i (measure_key len w.0))) (sym are) w.1) in
-      let e = p.0 in
-      let key = measure_from text e.key len w.0 p.3 in
-      let g = adds.all e len w.0 ((which e).1 (p.1, is_one e.key len w.0 key)) key w.2 in
-      (g.0, g.1, same_len e.key g.0.len g.2.type_id len w.0 g.2.key_is key, subst (λ rs. Has rs i) (sym g.2.rows_are) p.2);
+  all = λ len rank i w.
+      let number : 0 + rank ≡ rank = omega arith in
+      let p = subst (λ m. HasPosting text rows entries m (keyed i (measure_key len w.0))) number (posting-of text rows 0 entries (length rows) rank (keyed i (measure_key len w.0)) are.chained (omega arith) w.1) in
+      let key = measure_from text p.e.key len w.0 p.key_is in
+      let g = adds.all p.e len w.0 p.there key w.2 in
+      let low = p.low in
+      let first = g.2.first_is in (
+        g.0,
+        g.1,
+        same_len p.e.key g.0.len g.2.type_id len w.0 g.2.key_is key,
+        (rank - p.e.first, omega (arith, low, first), ap (λ rs. slice_get rs (rank - p.e.first)) g.2.rows_are ∙ p.row_there),
+      );
 }

@@ -11,3 +11,6 @@ pub mod Begun
 pub mod Entries
 pub mod Marks
 pub mod Groups
+pub mod Splits
+pub mod Once
+pub mod Places

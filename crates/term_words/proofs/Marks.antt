@@ -1,39 +1,45 @@
--- Rows that are marked.
+-- Descriptions that are marked.
 use Rattle.std.proofs.Common.{◌≡◌, ◌⊎◌, ◌↔◌, ℕ, zero, suc, ◌+◌, ◌<◌, ◌≤◌, Bool, true, false, List, [], ◌∷◌, ◌++◌, length, get_or, take, map, refl, sym, ap, subst, inl, inr, ◌∙◌, arith, append-nil}
-use Rattle.std.specs.Prelude.{nat_eq, Option, Some, None, slice_get, slice_set, slice_index_or, flat_map, replicate}
-use Rattle.std.specs.List.{starts_with}
+use Rattle.std.specs.Prelude.{nat_eq, Option, Some, None, slice_get, slice_set, flat_map, replicate}
+use Rattle.std.specs.List.{AllByRecursion, starts_with}
+use Rattle.std.proofs.lemmas.Bool.Decides.{nat_tests}
 use Rattle.std.proofs.lemmas.List.{take_more, length-take-le, length-map, length-append, map_push}
 use Rattle.std.proofs.lemmas.Option.{same_Some, slice_get_within, get_or_from_slice_get}
 use Rattle.std.proofs.lemmas.Grind.{flat_map-append}
 use Rattle.history_model.specs.InOrder.{Has}
-use Rattle.history_model.proofs.InOrder.{Has-append_left, Has-append_right, Has-append_cases}
-use Rattle.history_model.proofs.Items.{Has-flat_map, Has-flat_map_from}
-use Rattle.segment.specs.declared.place.RowPlace.{RowPlace}
+use Rattle.history_model.proofs.InOrder.{Has-all, Has-append_left, Has-append_right, Has-append_cases}
+use Rattle.history_model.proofs.Items.{Has-get_or, Has-flat_map, Has-flat_map_from}
 use Rattle.term_prefix.specs.Terms.{TermAt}
 use Rattle.term_words.specs.declared.listing.Entry.{Entry}
+use Rattle.term_words.specs.declared.ordered.Split.{Split}
 use Rattle.term_words.specs.Posted.{keyed}
 use Rattle.term_words.specs.Laid.{key_in, rows_of, postings_in}
-use Rattle.term_words.specs.Private.{IsBegun, IsMarked, AddsMarks, AreNarrowed, AreMarked, EachMarked}
+use Rattle.term_words.specs.Private.{all_in, IsUsable, IsBegun, IsMarked, AddsMarks, AreNarrowed, AreMarked, EachMarked}
 use Rattle.term_words.proofs.Entries.{posting_entry, entry_posting}
 use Rattle.term_words.proofs.Groups.{get_first, get_last, get_cases}
 
--- ---- whether a row is marked
+-- ---- whether a description is marked
 
-pub says_marked : (marks : List Bool) (i : ℕ) (b : Bool) → slice_get marks i ≡ Some b → (b ≡ true → IsMarked marks i) × (IsMarked marks i → b ≡ true)
-says_marked marks i b is = (λ e. is ∙ ap Some e, λ e. same_Some b true (sym is ∙ e))
+pub says_marked : (marks : List ℕ) (i m : ℕ) → slice_get marks i ≡ Some m → (nat_eq m 1 ≡ true → IsMarked marks i) × (IsMarked marks i → nat_eq m 1 ≡ true)
+says_marked marks i m is = (
+  λ e. is ∙ ap Some (one_from m e),
+  λ e. ap (λ n. nat_eq n 1) (same_Some m 1 (sym is ∙ e)),
+) where
+  one_from : (m : ℕ) → nat_eq m 1 ≡ true → m ≡ 1
+  one_from m e = grind (arith, nat_tests, e)
 
-pub says_none : (marks : List Bool) (i : ℕ) → slice_get marks i ≡ None → (false ≡ true → IsMarked marks i) × (IsMarked marks i → false ≡ true)
+pub says_none : (marks : List ℕ) (i : ℕ) → slice_get marks i ≡ None → (false ≡ true → IsMarked marks i) × (IsMarked marks i → false ≡ true)
 says_none marks i none = (λ e. absurd cc, λ e. absurd (let both = sym none ∙ e in cc))
 
 -- ---- one list of marks more
 
-pub adds_none : (marks among : List Bool) → AddsMarks marks among [] marks
+pub adds_none : (marks among : List ℕ) → AddsMarks marks among [] marks
 adds_none marks among = record {
   many = refl;
   marked = λ same i. (λ h. inl h, λ h. elim h [ inl l ↦ l | inr r ↦ absurd r.1 ]);
 }
 
-pub adds_both : (marks marks' marks'' among : List Bool) (xs ys : List ℕ) → AddsMarks marks among xs marks' → AddsMarks marks' among ys marks'' → AddsMarks marks among (xs ++ ys) marks''
+pub adds_both : (marks marks' marks'' among : List ℕ) (xs ys : List ℕ) → AddsMarks marks among xs marks' → AddsMarks marks' among ys marks'' → AddsMarks marks among (xs ++ ys) marks''
 adds_both marks marks' marks'' among xs ys a b = record {
   many = b.many ∙ a.many;
   marked = λ same i.
@@ -56,37 +62,37 @@ adds_both marks marks' marks'' among xs ys a b = record {
       );
 }
 
-pub adds_more : (marks marks' marks'' among : List Bool) (rows : List ℕ) (i row d : ℕ) → i < length rows → row ≡ get_or rows i d → AddsMarks marks among (take i rows) marks' → AddsMarks marks' among (row ∷ []) marks'' → AddsMarks marks among (take (i + 1) rows) marks''
+pub adds_more : (marks marks' marks'' among : List ℕ) (rows : List ℕ) (i row d : ℕ) → i < length rows → row ≡ get_or rows i d → AddsMarks marks among (take i rows) marks' → AddsMarks marks' among (row ∷ []) marks'' → AddsMarks marks among (take (i + 1) rows) marks''
 adds_more marks marks' marks'' among rows i row d lt is a b =
     subst (λ rs. AddsMarks marks among rs marks'') (ap (λ x. take i rows ++ x ∷ []) is ∙ sym (take_more rows i d lt)) (adds_both marks marks' marks'' among (take i rows) (row ∷ []) a b)
 
 -- ---- one mark
 
-get-set : (marks : List Bool) (row : ℕ) → row < length marks → slice_get (slice_set marks row true) row ≡ Some true
+get-set : (marks : List ℕ) (row : ℕ) → row < length marks → slice_get (slice_set marks row 1) row ≡ Some 1
 get-set [] row lt = absurd (omega arith)
 get-set (m ∷ marks) zero lt = refl
 get-set (m ∷ marks) (suc row) lt = get-set marks row (omega arith)
 
-get-set_cases : (marks : List Bool) (row i : ℕ) → slice_get (slice_set marks row true) i ≡ Some true → (slice_get marks i ≡ Some true) ⊎ (row ≡ i)
+get-set_cases : (marks : List ℕ) (row i : ℕ) → slice_get (slice_set marks row 1) i ≡ Some 1 → (slice_get marks i ≡ Some 1) ⊎ (row ≡ i)
 get-set_cases [] row i h = inl h
 get-set_cases (m ∷ marks) zero zero h = inr refl
 get-set_cases (m ∷ marks) zero (suc i) h = inl h
 get-set_cases (m ∷ marks) (suc row) zero h = inl h
 get-set_cases (m ∷ marks) (suc row) (suc i) h = elim (get-set_cases marks row i h) [ inl l ↦ inl l | inr e ↦ inr (ap suc e) ]
 
-get-set_old : (marks : List Bool) (row i : ℕ) → slice_get marks i ≡ Some true → slice_get (slice_set marks row true) i ≡ Some true
+get-set_old : (marks : List ℕ) (row i : ℕ) → slice_get marks i ≡ Some 1 → slice_get (slice_set marks row 1) i ≡ Some 1
 get-set_old [] row i h = h
 get-set_old (m ∷ marks) zero zero h = refl
 get-set_old (m ∷ marks) zero (suc i) h = h
 get-set_old (m ∷ marks) (suc row) zero h = h
 get-set_old (m ∷ marks) (suc row) (suc i) h = get-set_old marks row i h
 
-length-set : (marks : List Bool) (row : ℕ) → length (slice_set marks row true) ≡ length marks
+length-set : (marks : List ℕ) (row : ℕ) → length (slice_set marks row 1) ≡ length marks
 length-set [] row = refl
 length-set (m ∷ marks) zero = refl
 length-set (m ∷ marks) (suc row) = ap suc (length-set marks row)
 
-pub marked_one : (marks among : List Bool) (row : ℕ) → row < length marks → IsMarked among row → AddsMarks marks among (row ∷ []) (slice_set marks row true)
+pub marked_one : (marks among : List ℕ) (row : ℕ) → row < length marks → IsMarked among row → AddsMarks marks among (row ∷ []) (slice_set marks row 1)
 marked_one marks among row lt is = record {
   many = length-set marks row;
   marked = λ same i. (
@@ -97,14 +103,14 @@ marked_one marks among row lt is = record {
     λ h. elim h [
       | inl l ↦ get-set_old marks row i l
       | inr r ↦ elim r.1 [
-        | inl e ↦ subst (IsMarked (slice_set marks row true)) e (get-set marks row lt)
+        | inl e ↦ subst (IsMarked (slice_set marks row 1)) e (get-set marks row lt)
         | inr none ↦ absurd none
       ]
     ],
   );
 }
 
-pub unmarked_one : (marks among : List Bool) (row : ℕ) → (length marks ≡ length among → IsMarked among row → ⊥) → AddsMarks marks among (row ∷ []) marks
+pub unmarked_one : (marks among : List ℕ) (row : ℕ) → (length marks ≡ length among → IsMarked among row → ⊥) → AddsMarks marks among (row ∷ []) marks
 unmarked_one marks among row none = record {
   many = refl;
   marked = λ same i. (
@@ -119,25 +125,31 @@ unmarked_one marks among row none = record {
   );
 }
 
--- ---- the rows of entries
+-- ---- the ranks of entries
 
-pub adds_entry : (marks marks' marks'' among : List Bool) (rows : List ℕ) (those : List Entry) (i : ℕ) (e d : Entry) → i < length those → e ≡ get_or those i d → AddsMarks marks among (flat_map (rows_of rows) (take i those)) marks' → AddsMarks marks' among (rows_of rows e) marks'' → AddsMarks marks among (flat_map (rows_of rows) (take (i + 1) those)) marks''
+pub adds_entry : (marks marks' marks'' among : List ℕ) (rows : List ℕ) (those : List Entry) (i : ℕ) (e d : Entry) → i < length those → e ≡ get_or those i d → AddsMarks marks among (flat_map (rows_of rows) (take i those)) marks' → AddsMarks marks' among (rows_of rows e) marks'' → AddsMarks marks among (flat_map (rows_of rows) (take (i + 1) those)) marks''
 adds_entry marks marks' marks'' among rows those i e d lt is a b =
     subst (λ rs. AddsMarks marks among rs marks'')
     (ap (λ xs. flat_map (rows_of rows) (take i those) ++ xs) (sym (append-nil (rows_of rows e))) ∙ sym (flat_map-append (rows_of rows) (take i those) (e ∷ [])) ∙ ap (flat_map (rows_of rows)) (ap (λ x. take i those ++ x ∷ []) is ∙ sym (take_more those i d lt)))
     (adds_both marks marks' marks'' among (flat_map (rows_of rows) (take i those)) (rows_of rows e) a b)
 
-no_marks : (n i : ℕ) → slice_get (replicate n false) i ≡ Some true → ⊥
+abbrev pub zeros : ℕ → List ℕ
+zeros n = replicate {A = ℕ} n 0
+
+abbrev pub ones : ℕ → List ℕ
+ones n = replicate {A = ℕ} n 1
+
+no_marks : (n i : ℕ) → slice_get (zeros n) i ≡ Some 1 → ⊥
 no_marks zero i h = absurd cc
-no_marks (suc n) zero h = absurd cc
+no_marks (suc n) zero h = absurd (let e = same_Some 0 1 h in omega (arith, e))
 no_marks (suc n) (suc i) h = no_marks n i h
 
-length-none : (n : ℕ) → length (replicate n false) ≡ n
+length-none : (n : ℕ) → length (zeros n) ≡ n
 length-none zero = refl
 length-none (suc n) = ap suc (length-none n)
 
-pub narrowed_by : (text rows : List ℕ) (entries those : List Entry) (ts : List TermAt) (among marks : List Bool) (prefix : List ℕ) → postings_in text entries rows ≡ ts
-    → ((e : Entry) → Has those e ↔ (Has entries e × (starts_with nat_eq (key_in text e.key) prefix ≡ true))) → AddsMarks (replicate (length among) false) among (flat_map (rows_of rows) those) marks → AreNarrowed ts among prefix marks
+pub narrowed_by : (text rows : List ℕ) (entries those : List Entry) (ts : List TermAt) (among marks : List ℕ) (prefix : List ℕ) → postings_in text entries rows ≡ ts
+    → ((e : Entry) → Has those e ↔ (Has entries e × (starts_with nat_eq (key_in text e.key) prefix ≡ true))) → AddsMarks (zeros (length among)) among (flat_map (rows_of rows) those) marks → AreNarrowed ts among prefix marks
 narrowed_by text rows entries those ts among marks prefix is which adds = record {
   many = adds.many ∙ length-none (length among);
   marked = λ i.
@@ -159,25 +171,25 @@ narrowed_by text rows entries those ts among marks prefix is which adds = record
 
 -- ---- for each wanted key
 
-all_marks : (n i : ℕ) → i < n → slice_get (replicate n true) i ≡ Some true
+all_marks : (n i : ℕ) → i < n → slice_get (ones n) i ≡ Some 1
 all_marks zero i lt = absurd (omega arith)
 all_marks (suc n) zero lt = refl
 all_marks (suc n) (suc i) lt = all_marks n i (omega arith)
 
-length-all : (n : ℕ) → length (replicate n true) ≡ n
+length-all : (n : ℕ) → length (ones n) ≡ n
 length-all zero = refl
 length-all (suc n) = ap suc (length-all n)
 
-pub marked_first : (ts : List TermAt) (count : ℕ) → AreMarked ts [] count (replicate count true)
+pub marked_first : (ts : List TermAt) (count : ℕ) → AreMarked ts [] count (ones count)
 marked_first ts count = record {
   many = length-all count;
   marked = λ i. (
-    λ h. ((let lt = slice_get_within (replicate count true) i true h in let size = length-all count in omega (arith, lt, size)), λ prefix k. absurd k),
+    λ h. ((let lt = slice_get_within (ones count) i 1 h in let size = length-all count in omega (arith, lt, size)), λ prefix k. absurd k),
     λ h. all_marks count i h.0,
   );
 }
 
-pub marked_more : (ts : List TermAt) (wanted : List (List ℕ)) (prefix : List ℕ) (count : ℕ) (among marks : List Bool) → AreMarked ts wanted count among → AreNarrowed ts among prefix marks → AreMarked ts (wanted ++ prefix ∷ []) count marks
+pub marked_more : (ts : List TermAt) (wanted : List (List ℕ)) (prefix : List ℕ) (count : ℕ) (among marks : List ℕ) → AreMarked ts wanted count among → AreNarrowed ts among prefix marks → AreMarked ts (wanted ++ prefix ∷ []) count marks
 marked_more ts wanted prefix count among marks a b = record {
   many = b.many ∙ a.many;
   marked = λ i. (
@@ -194,42 +206,39 @@ marked_more ts wanted prefix count among marks a b = record {
   );
 }
 
-pub marked_next : (ts : List TermAt) (wanted : List (List ℕ)) (prefix : List ℕ) (i count : ℕ) (among marks : List Bool) → slice_get wanted i ≡ Some prefix → AreMarked ts (take i wanted) count among → AreNarrowed ts among prefix marks → AreMarked ts (take (i + 1) wanted) count marks
+pub marked_next : (ts : List TermAt) (wanted : List (List ℕ)) (prefix : List ℕ) (i count : ℕ) (among marks : List ℕ) → slice_get wanted i ≡ Some prefix → AreMarked ts (take i wanted) count among → AreNarrowed ts among prefix marks → AreMarked ts (take (i + 1) wanted) count marks
 marked_next ts wanted prefix i count among marks there a b =
     subst (λ ps. AreMarked ts ps count marks) (ap (λ p. take i wanted ++ p ∷ []) (sym (get_or_from_slice_get wanted i prefix [] there)) ∙ sym (take_more wanted i [] (slice_get_within wanted i prefix there))) (marked_more ts (take i wanted) prefix count among marks a b)
 
 -- ---- the marks of all lists
 
--- a list that isn't there has no rows
-pub rows_past : (index : List (List RowPlace)) (n : ℕ) → length index ≤ n → 0 ≡ length (slice_index_or index n [])
-rows_past [] n le = refl
-rows_past (places ∷ index) zero le = absurd (omega arith)
-rows_past (places ∷ index) (suc n) le = rows_past index n (omega arith)
+pub marks_none : (wanted : List (List ℕ)) → EachMarked [] wanted []
+marks_none wanted = λ n s e. absurd (none n s e) where
+  none : (n : ℕ) (s : Split) → slice_get [] n ≡ Some s → ⊥
+  none n s e = absurd cc
 
-pub marks_none : (index : List (List RowPlace)) (wanted : List (List ℕ)) → EachMarked index [] wanted []
-marks_none index wanted = λ n ts e. absurd (none n ts e) where
-  none : (n : ℕ) (ts : List TermAt) → slice_get [] n ≡ Some ts → ⊥
-  none n ts e = absurd cc
-
-pub marks_more : (index : List (List RowPlace)) (lists : List (List TermAt)) (ts : List TermAt) (wanted : List (List ℕ)) (marks : List (List Bool)) (own : List Bool) → length marks ≡ length lists → EachMarked index lists wanted marks → AreMarked ts wanted (length (slice_index_or index (length lists) [])) own
-    → EachMarked index (lists ++ ts ∷ []) wanted (marks ++ own ∷ [])
-marks_more index lists ts wanted marks own many each last = λ n us e. elim (get_cases lists ts n us e) [
-  | inl l ↦ (let w = each n us l in (w.0, get_first marks (own ∷ []) n w.0 w.1, w.2))
+marks_more : (splits : List Split) (s : Split) (wanted marks : List (List ℕ)) (own : List ℕ) → length marks ≡ length splits → EachMarked splits wanted marks → AreMarked (all_in s.words) wanted (length s.sizes.rows.now) own → EachMarked (splits ++ s ∷ []) wanted (marks ++ own ∷ [])
+marks_more splits s wanted marks own many each last = λ n r e. elim (get_cases splits s n r e) [
+  | inl l ↦ (let w = each n r l in (w.0, get_first marks (own ∷ []) n w.0 w.1, w.2))
   | inr r ↦ (
     own,
     ap (slice_get (marks ++ own ∷ [])) (r.0 ∙ sym many) ∙ get_last marks own,
-    subst (λ i. AreMarked us wanted (length (slice_index_or index i [])) own) (sym r.0) (subst (λ xs. AreMarked xs wanted (length (slice_index_or index (length lists) [])) own) r.1 last),
+    subst (λ (x : Split). AreMarked (all_in x.words) wanted (length x.sizes.rows.now) own) r.1 last,
   )
 ]
 
-pub marks_next : {V : Type 0} (items : V → List Bool) (index : List (List RowPlace)) (lists : List (List TermAt)) (i : ℕ) (list d : List TermAt) (wanted : List (List ℕ)) (ms ms' : List V) (own : V) → i < length lists → list ≡ get_or lists i d → ms' ≡ ms ++ own ∷ [] → (length ms ≡ i) × EachMarked index (take i lists) wanted (map items ms)
-    → AreMarked list wanted (length (slice_index_or index i [])) (items own) → (length ms' ≡ i + 1) × EachMarked index (take (i + 1) lists) wanted (map items ms')
-marks_next {V} items index lists i list d wanted ms ms' own lt is are so last =
-    let size : length (take i lists) ≡ i = length-take-le i lists (omega arith) in
-    let many : length (map items ms) ≡ length (take i lists) = length-map ms items ∙ so.0 ∙ sym size in
-    let each = marks_more index (take i lists) list wanted (map items ms) (items own) many so.1 (subst (λ n. AreMarked list wanted (length (slice_index_or index n [])) (items own)) (sym size) last) in
+pub marks_next : {V : Type 0} (items : V → List ℕ) (splits : List Split) (i : ℕ) (s d : Split) (wanted : List (List ℕ)) (ms ms' : List V) (own : V) → i < length splits → s ≡ get_or splits i d → ms' ≡ ms ++ own ∷ [] → (length ms ≡ i) × EachMarked (take i splits) wanted (map items ms)
+    → AreMarked (all_in s.words) wanted (length s.sizes.rows.now) (items own) → (length ms' ≡ i + 1) × EachMarked (take (i + 1) splits) wanted (map items ms')
+marks_next {V} items splits i s d wanted ms ms' own lt is are so last =
+    let size : length (take i splits) ≡ i = length-take-le i splits (omega arith) in
+    let many : length (map items ms) ≡ length (take i splits) = length-map ms items ∙ so.0 ∙ sym size in
+    let each = marks_more (take i splits) s wanted (map items ms) (items own) many so.1 last in
     let longer : length ms' ≡ i + 1 = (let e = ap (λ (xs : List V). length xs) are in let sum = length-append ms (own ∷ []) in let before = so.0 in omega (arith, e, sum, before)) in (
       longer,
-      subst (λ xs. EachMarked index xs wanted (map items ms')) (ap (λ x. take i lists ++ x ∷ []) is ∙ sym (take_more lists i d lt))
-          (subst (λ xs. EachMarked index (take i lists ++ list ∷ []) wanted xs) (sym (ap (map items) are ∙ map_push items ms own)) each),
+      subst (λ xs. EachMarked xs wanted (map items ms')) (ap (λ x. take i splits ++ x ∷ []) is ∙ sym (take_more splits i d lt))
+          (subst (λ xs. EachMarked (take i splits ++ s ∷ []) wanted xs) (sym (ap (map items) are ∙ map_push items ms own)) each),
     )
+
+-- the parts of a list are as a search needs them
+pub usable_at : (splits : List Split) (i : ℕ) (s d : Split) → i < length splits → s ≡ get_or splits i d → AllByRecursion IsUsable splits → IsUsable s
+usable_at splits i s d lt is each = Has-all IsUsable splits s each (subst (Has splits) (sym is) (Has-get_or splits i d lt))

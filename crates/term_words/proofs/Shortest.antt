@@ -22,7 +22,7 @@ pub says_enough : (count last next : ℕ) (kept once : List Chosen) (b : Bool) �
 says_enough count last next kept once true o lt le = (o, le refl, lt)
 says_enough count last next kept once false o lt le = inr o
 
-module _ (lists : List (List StampedRow)) (as_of : AsOf) (marks : List (List Bool)) where
+module _ (lists : List (List StampedRow)) (as_of : AsOf) (marks : List (List ℕ)) where
   abbrev Of : List Group → Chosen → Type 0
   Of groups k = IsOfSome lists as_of groups marks k
 
@@ -36,7 +36,7 @@ module _ (lists : List (List StampedRow)) (as_of : AsOf) (marks : List (List Boo
   more_there kept more k w = (w.0, Has-append_left kept more w.0 w.1, w.2)
 
   -- the rows of one group more
-  pub kept_more : (groups : List Group) (g : Group) (own : List Bool) (kept kept' : List Chosen) → slice_get marks g.segment ≡ Some own → AreKept lists as_of groups marks kept → AddsRowsOf lists as_of g own kept kept' → AreKept lists as_of (groups ++ g ∷ []) marks kept'
+  pub kept_more : (groups : List Group) (g : Group) (own : List ℕ) (kept kept' : List Chosen) → slice_get marks g.segment ≡ Some own → AreKept lists as_of groups marks kept → AddsRowsOf lists as_of g own kept kept' → AreKept lists as_of (groups ++ g ∷ []) marks kept'
   kept_more groups g own kept kept' e a adds =
       subst (λ ks. AreKept lists as_of (groups ++ g ∷ []) marks ks) (sym adds.kept_are) (record {
         only = λ k h. elim (Has-append_cases kept adds.more k h) [
@@ -122,7 +122,7 @@ module _ (lists : List (List StampedRow)) (as_of : AsOf) (marks : List (List Boo
             λ j h.
                 let le = behind groups i w.0 d rise lt r in
                 let own = ap (λ (x : Group). x.len) is in
-                let first = ap (λ (x : Chosen). x.first) w.4.5 in
+                let first = ap (λ (x : Chosen). x.first) w.4.4 in
                 let most = low j (o.only j h) in
                 omega (arith, le, own, first, most, longer),
           )
@@ -130,10 +130,10 @@ module _ (lists : List (List StampedRow)) (as_of : AsOf) (marks : List (List Boo
       }
 
   -- the lengths of those that are kept
-  pub low_more : (g : Group) (own : List Bool) (last : ℕ) (kept kept' : List Chosen) → AddsRowsOf lists as_of g own kept kept' → ((j : Chosen) → Has kept j → j.first ≤ last) → last ≤ g.len → (j : Chosen) → Has kept' j → j.first ≤ g.len
+  pub low_more : (g : Group) (own : List ℕ) (last : ℕ) (kept kept' : List Chosen) → AddsRowsOf lists as_of g own kept kept' → ((j : Chosen) → Has kept j → j.first ≤ last) → last ≤ g.len → (j : Chosen) → Has kept' j → j.first ≤ g.len
   low_more g own last kept kept' adds low le j h = elim (Has-append_cases kept adds.more j (subst (λ ks. Has ks j) adds.kept_are h)) [
     | inl l ↦ (let most = low j l in omega (arith, most, le))
-    | inr r ↦ (let same = ap (λ (x : Chosen). x.first) (adds.only j r).5 in omega (arith, same))
+    | inr r ↦ (let same = ap (λ (x : Chosen). x.first) (adds.only j r).4 in omega (arith, same))
   ]
 
   -- ---- what the loop over the groups keeps
@@ -160,7 +160,7 @@ module _ (lists : List (List StampedRow)) (as_of : AsOf) (marks : List (List Boo
         any_default (x ∷ xs) zero d e lt = refl
         any_default (x ∷ xs) (suc i) d e lt = any_default xs i d e (omega arith)
 
-  pub so_far_more : (groups : List Group) (i last : ℕ) (g e : Group) (own : List Bool) (kept kept' : List Chosen) → IsNonDecreasingBy (λ (x : Group). x.len) groups → i < length groups → g ≡ get_or groups i e → IsSoFar groups i last kept → slice_get marks g.segment ≡ Some own → AddsRowsOf lists as_of g own kept kept' → IsSoFar groups (i + 1) g.len kept'
+  pub so_far_more : (groups : List Group) (i last : ℕ) (g e : Group) (own : List ℕ) (kept kept' : List Chosen) → IsNonDecreasingBy (λ (x : Group). x.len) groups → i < length groups → g ≡ get_or groups i e → IsSoFar groups i last kept → slice_get marks g.segment ≡ Some own → AddsRowsOf lists as_of g own kept kept' → IsSoFar groups (i + 1) g.len kept'
   so_far_more groups i last g e own kept kept' rise lt is a marks_are adds = record {
     kept_so = subst (λ gs. AreKept lists as_of gs marks kept') (sym (one_more groups i g e lt is)) (kept_more (take i groups) g own kept kept' marks_are a.kept_so adds);
     low = low_more g own last kept kept' adds a.low (let le = a.next e lt in let same = ap (λ (x : Group). x.len) is in omega (arith, le, same));
@@ -189,6 +189,6 @@ module _ (lists : List (List StampedRow)) (as_of : AsOf) (marks : List (List Boo
 
   pub so_far_next : (groups : List Group) (i last : ℕ) (g e : Group) (kept kept' : List Chosen) → IsNonDecreasingBy (λ (x : Group). x.len) groups → i < length groups → g ≡ get_or groups i e → IsSoFar groups i last kept → AddsMarked lists as_of g marks kept kept' → IsSoFar groups (i + 1) g.len kept'
   so_far_next groups i last g e kept kept' rise lt is a adds = by (slice_get marks g.segment) refl where
-    by : (own : Option (List Bool)) → slice_get marks g.segment ≡ own → IsSoFar groups (i + 1) g.len kept'
+    by : (own : Option (List ℕ)) → slice_get marks g.segment ≡ own → IsSoFar groups (i + 1) g.len kept'
     by (Some own) are = so_far_more groups i last g e own kept kept' rise lt is a are (adds.some own are)
     by None none = subst (λ ks. IsSoFar groups (i + 1) g.len ks) (sym (adds.none none)) (so_far_less groups i last g e kept rise lt is a none)

@@ -9,8 +9,8 @@ use Rattle.term_prefix.specs.Terms.{TermAt, TextsRise}
 use Rattle.term_prefix.specs.Merged.{MergedTerms, IsMergeOfTerms, terms_left}
 use Rattle.term_prefix.specs.Private.{next_of, first_taken, second_taken}
 use Rattle.term_prefix.proofs.InTurns.{IsStep, stepped_first, stepped_second, none_left}
-use Rattle.term_words.specs.declared.listing.Posting.{Posting}
-use Rattle.term_words.specs.Private.{SaysPosting}
+use Rattle.term_words.specs.declared.ordered.Placed.{Placed}
+use Rattle.term_words.specs.Private.{SaysPlaced}
 
 -- the first list has the next one, unless that of the second list is less
 first_is : (t : TermAt) (o : Option TermAt) → ((u : TermAt) → o ≡ Some u → is_lt (slice_cmp nat_cmp u.folded t.folded) ≡ false) → next_of (Some t) o ≡ next_of (Some t) None
@@ -36,5 +36,5 @@ module _ (lists : TwoLists) (a b : List TermAt) (up : TextsRise a × TextsRise b
   took_none e f = none_left lists a b up m (λ i. next_of (e i) (f i))
 
 -- what was read of a list that is seen as `ts`, at its number
-pub says_of : (ts us : List TermAt) (n k : ℕ) (r : Option Posting) → us ≡ ts → k ≡ n → SaysPosting (slice_get us k) r → SaysPosting (slice_get ts n) r
-says_of ts us n k r same at says = subst (λ j. SaysPosting (slice_get ts j) r) at (subst (λ xs. SaysPosting (slice_get xs k) r) same says)
+pub says_of : (ts us : List TermAt) (n k : ℕ) (r : Option Placed) → us ≡ ts → k ≡ n → SaysPlaced (slice_get us k) r → SaysPlaced (slice_get ts n) r
+says_of ts us n k r same at says = subst (λ j. SaysPlaced (slice_get ts j) r) at (subst (λ xs. SaysPlaced (slice_get xs k) r) same says)

@@ -8,11 +8,12 @@ returns-then-not-is_of_type c = no_group c.args.rows.now c.args.segment c.args.w
 
 pub returns-in_ok-push-in-Measure : goal.returns-in_ok-push-in-Measure
 returns-in_ok-push-in-Measure c =
-    one_group c.args.rows.now c.args.segment c.args.wanted_type c.args.e.now (record { len = c.in-Measure.length; segment = c.args.segment; rows = c.rows_of.result }) c.args.groups.now.items c.push.new.self.items (record {
+    one_group c.args.rows.now c.args.segment c.args.wanted_type c.args.e.now (record { len = c.in-Measure.length; segment = c.args.segment; first = c.args.e.now.first; rows = c.rows_of.result }) c.args.groups.now.items c.push.new.self.items (record {
       type_id = c.in-Measure.type_id;
       key_is = c.in-Measure.is;
       of_type = sym c.is_of_type.ensures ∙ c.if-not-is_of_type.false;
       segment_is = refl;
+      first_is = refl;
       rows_are = c.rows_of.ensures;
     }) c.in_ok-push-in-Measure.ensures.items
 

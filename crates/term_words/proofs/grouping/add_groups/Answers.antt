@@ -2,22 +2,21 @@ use Rattle.std.proofs.Common.{get_or, refl, subst, take, take_all}
 use Rattle.term_words.specs.declared.keys.KeyAt.TheVariants as places
 use Rattle.term_words.specs.declared.listing.Entry.{Entry}
 use Rattle.term_words.specs.Private.{AddsGroupsOf}
-use Rattle.term_words.proofs.Groups.{no_groups, groups_next, groups_of_those}
+use Rattle.term_words.proofs.Groups.{no_groups, groups_next, groups_of_all}
 use Rattle.term_words.proofs.grouping.add_groups.Goals as goal
 
 pub loop-e-init : goal.loop-e-init
-loop-e-init c = no_groups c.parts-parts.result.rows.now c.args.segment c.args.wanted_type c.args.groups.now.items
+loop-e-init c = no_groups c.args.split.now.sizes.rows.now c.args.segment c.args.wanted_type c.args.groups.now.items
 
 pub loop-e-preserved : goal.loop-e-preserved
 loop-e-preserved c =
-    let those = c.measures-those.result.now in
+    let sizes = c.args.split.now.sizes in
     let i = c.loop-e.e-index in
     let d : Entry = record { key = places.Measure 0 0; first = 0; count = 0 } in
-    groups_next c.parts-parts.result.rows.now c.args.segment c.args.wanted_type those i d (get_or those i d) c.args.groups.now.items c.loop-e.groups.items c.add_group.new.groups.items c.loop-e-test.true refl c.loop-e.invariant c.in_ok-add_group.ensures
+    groups_next sizes.rows.now c.args.segment c.args.wanted_type sizes.entries.now i d (get_or sizes.entries.now i d) c.args.groups.now.items c.loop-e.groups.items c.add_group.new.groups.items c.loop-e-test.true refl c.loop-e.invariant c.in_ok-add_group.ensures
 
 pub returns : goal.returns
 returns c =
-    let parts = c.parts-parts.result in
-    let those = c.measures-those.result.now in
-    groups_of_those parts.text.now parts.rows.now parts.entries.now those c.args.list.now c.args.segment c.args.wanted_type c.args.groups.now.items c.loop-e.groups.items c.parts-parts.ensures.same (c.measures-those.ensures parts.text.now c.parts-parts.ensures.rising)
-    (subst (λ es. AddsGroupsOf parts.rows.now c.args.segment c.args.wanted_type es c.args.groups.now.items c.loop-e.groups.items) (take_all c.loop-e.e-index those c.loop-e-test.false) c.loop-e.invariant)
+    let sizes = c.args.split.now.sizes in
+    groups_of_all sizes.text.now sizes.rows.now sizes.entries.now c.args.segment c.args.wanted_type c.args.groups.now.items c.loop-e.groups.items c.requires.0
+    (subst (λ es. AddsGroupsOf sizes.rows.now c.args.segment c.args.wanted_type es c.args.groups.now.items c.loop-e.groups.items) (take_all c.loop-e.e-index sizes.entries.now c.loop-e-test.false) c.loop-e.invariant)

@@ -1,16 +1,16 @@
 use Rattle.std.proofs.Common.{get_or, refl, subst, take, take_all}
 use Rattle.term_words.specs.Private.{AddsMarks}
 use Rattle.term_words.proofs.Marks.{adds_none, adds_more}
-use Rattle.term_words.proofs.marking.mark_rows.Goals as goal
+use Rattle.term_words.proofs.marking.mark_ranks.Goals as goal
 
-pub loop-row-init : goal.loop-row-init
-loop-row-init c = adds_none c.args.marks.now.items c.args.among.now
+pub loop-rank-init : goal.loop-rank-init
+loop-rank-init c = adds_none c.args.marks.now.items c.args.among.now
 
-pub loop-row-preserved : goal.loop-row-preserved
-loop-row-preserved c =
-    let rows = c.args.rows.now in
-    let i = c.loop-row.row-index in
-    adds_more c.args.marks.now.items c.loop-row.marks.items c.mark_row.new.marks.items c.args.among.now rows i (get_or rows i 0) 0 c.loop-row-test.true refl c.loop-row.invariant c.mark_row.ensures
+pub loop-rank-preserved : goal.loop-rank-preserved
+loop-rank-preserved c =
+    let ranks = c.args.ranks.now in
+    let i = c.loop-rank.rank-index in
+    adds_more c.args.marks.now.items c.loop-rank.marks.items c.mark_rank.new.marks.items c.args.among.now ranks i (get_or ranks i 0) 0 c.loop-rank-test.true refl c.loop-rank.invariant c.mark_rank.ensures
 
 pub returns : goal.returns
-returns c = subst (λ rs. AddsMarks c.args.marks.now.items c.args.among.now rs c.loop-row.marks.items) (take_all c.loop-row.row-index c.args.rows.now c.loop-row-test.false) c.loop-row.invariant
+returns c = subst (λ rs. AddsMarks c.args.marks.now.items c.args.among.now rs c.loop-rank.marks.items) (take_all c.loop-rank.rank-index c.args.ranks.now c.loop-rank-test.false) c.loop-rank.invariant

@@ -1,16 +1,20 @@
-use Rattle.std.proofs.Common.{◌≡◌, List, [], Bool, map, refl, sym, subst, take, take_all}
+use Rattle.std.proofs.Common.{◌≡◌, map, refl, subst, take, take_all}
 use Rattle.term_words.specs.Private.{EachMarked}
-use Rattle.term_words.proofs.Marks.{marks_none, marks_next}
+use Rattle.term_words.proofs.Marks.{marks_none, marks_next, usable_at}
 use Rattle.term_words.proofs.marking.marks_of.Goals as goal
 
-pub loop-segment-init : goal.loop-segment-init
-loop-segment-init c = rw c.in_ok-marks.ensures.items (refl, marks_none c.args.index.now c.args.wanted.now)
+pub loop-split-init : goal.loop-split-init
+loop-split-init c = rw c.in_ok-marks.ensures.items (refl, marks_none c.args.wanted.now)
 
-pub loop-segment-preserved : goal.loop-segment-preserved
-loop-segment-preserved c =
-    let list = c.index-lists-segment.result in
-    marks_next (λ m. m.items) c.args.index.now c.args.lists.now c.loop-segment.segment list list c.args.wanted.now c.loop-segment.marks.items c.push.new.self.items _ c.loop-segment-test.true c.index-lists-segment.is c.in_ok-push.ensures.items c.loop-segment.invariant
-    (rw c.rows_in.ensures at c.in_ok-marked.ensures)
+pub marked-requires : goal.marked-requires
+marked-requires c =
+    let split = c.split-item.result in
+    (usable_at c.args.splits.now c.loop-split.split-index split split c.loop-split-test.true c.split-item.is c.requires).1
+
+pub loop-split-preserved : goal.loop-split-preserved
+loop-split-preserved c =
+    let split = c.split-item.result in
+    marks_next (λ m. m.items) c.args.splits.now c.loop-split.split-index split split c.args.wanted.now c.loop-split.marks.items c.push.new.self.items _ c.loop-split-test.true c.split-item.is c.in_ok-push.ensures.items c.loop-split.invariant c.in_ok-marked.ensures
 
 pub returns : goal.returns
-returns c = subst (λ xs. EachMarked c.args.index.now xs c.args.wanted.now (map (λ m. m.items) c.loop-segment.marks.items)) (take_all c.loop-segment.segment c.args.lists.now c.loop-segment-test.false) c.loop-segment.invariant.1
+returns c = subst (λ xs. EachMarked xs c.args.wanted.now (map (λ m. m.items) c.loop-split.marks.items)) (take_all c.loop-split.split-index c.args.splits.now c.loop-split-test.false) c.loop-split.invariant.1

@@ -1,18 +1,13 @@
-use Rattle.std.proofs.Common.{◌≡◌, sym, ◌∙◌}
-use Rattle.term_words.proofs.Adding.{row_not, row_old, row_one}
+use Rattle.std.proofs.Common.{◌≡◌}
+use Rattle.term_words.proofs.Adding.{row_old, row_one}
 use Rattle.term_words.proofs.search.add_row.Goals as goal
-
-pub returns-then-not-is_marked : goal.returns-then-not-is_marked
-returns-then-not-is_marked c = λ lists listed_so.
-    let a = c.args in
-    row_not lists a.as_of.now a.group.now.segment a.group.now.len a.marks.now a.row a.kept.now.items (λ at mark place now. absurd (let yes = c.is_marked.ensures.1 mark in let no = c.if-not-is_marked.true in cc))
 
 pub returns-in_ok-push-in-Some : goal.returns-in_ok-push-in-Some
 returns-in_ok-push-in-Some c = λ lists listed_so.
     let a = c.args in
-    row_one lists a.as_of.now a.group.now.segment a.group.now.len a.marks.now a.row c.current_at.result (c.current_at.ensures lists listed_so) a.kept.now.items c.in-Some.at c.push.new.self.items (c.is_marked.ensures.0 c.if-not-is_marked.false) c.in-Some.is c.in_ok-push-in-Some.ensures.items
+    row_one lists a.as_of.now a.group.now.segment a.group.now.len a.row c.current_at.result (c.current_at.ensures lists listed_so) a.kept.now.items c.in-Some.at c.push.new.self.items c.in-Some.is c.in_ok-push-in-Some.ensures.items
 
 pub returns-in-None : goal.returns-in-None
 returns-in-None c = λ lists listed_so.
     let a = c.args in
-    row_old lists a.as_of.now a.group.now.segment a.group.now.len a.marks.now a.row c.current_at.result (c.current_at.ensures lists listed_so) a.kept.now.items c.in-None.is
+    row_old lists a.as_of.now a.group.now.segment a.group.now.len a.row c.current_at.result (c.current_at.ensures lists listed_so) a.kept.now.items c.in-None.is

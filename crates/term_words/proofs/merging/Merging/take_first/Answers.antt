@@ -12,7 +12,7 @@ overflow_add-next c =
     let t = c.args.t in
     let lt = slice_get_within c.args.a.now c.args.self.now.taken.first (keyed t.row (key_of t.key)) c.requires in
     let at = ap (λ (m : MergedTerms). m.taken.first) c.self.view_is in
-    let many = c.len-many.ensures in
+    let many = c.len-many.ensures.count in
     let same = ap (λ (ts : List TermAt). length ts) c.a.view_is in
     omega (arith, lt, at, many, same)
 

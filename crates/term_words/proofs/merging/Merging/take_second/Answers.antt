@@ -12,7 +12,7 @@ overflow_add-next c =
     let u = c.args.u in
     let lt = slice_get_within c.args.b.now c.args.self.now.taken.second (keyed u.row (key_of u.key)) c.requires in
     let at = ap (λ (m : MergedTerms). m.taken.second) c.self.view_is in
-    let many = c.len-many.ensures in
+    let many = c.len-many.ensures.count in
     let same = ap (λ (ts : List TermAt). length ts) c.b.view_is in
     omega (arith, lt, at, many, same)
 
