@@ -52,7 +52,7 @@ module _ (lists : List (List StampedRow)) (as_of : AsOf) (n len : ℕ) where
       only = λ k h. absurd h;
       all = λ k w. elim w.1 [
         | inl same ↦ absurd (let there = (which k.at).1 (subst (λ i. IsPlaceOfRow lists n i k.at) (sym same) w.2, w.3) in let both = sym none ∙ there in cc)
-        | inr no ↦ absurd no
+        | inr none_else ↦ absurd none_else
       ];
     }
 

@@ -100,11 +100,11 @@ module _ (rows : List ℕ) (n : ℕ) (wanted_type : Option ℕ) where
   }
 
   pub no_group : (e : Entry) (groups : List Group) → ((len type_id : ℕ) → e.key ≡ places.Measure len type_id → is_of_type wanted_type type_id ≡ true → ⊥) → AddsGroupsOf rows n wanted_type (e ∷ []) groups groups
-  no_group e groups no = record {
+  no_group e groups never = record {
     more = [];
     groups_are = sym (append-nil groups);
     only = λ g h. absurd h;
-    all = λ d len type_id h key of_type. elim h [ inl same ↦ absurd (no len type_id (ap (λ (x : Entry). x.key) same ∙ key) of_type) | inr none ↦ absurd none ];
+    all = λ d len type_id h key of_type. elim h [ inl same ↦ absurd (never len type_id (ap (λ (x : Entry). x.key) same ∙ key) of_type) | inr none ↦ absurd none ];
   }
 
   pub groups_next : (those : List Entry) (i : ℕ) (d e : Entry) (groups groups' groups'' : List Group) → i < length those → e ≡ get_or those i d → AddsGroupsOf rows n wanted_type (take i those) groups groups' → AddsGroupsOf rows n wanted_type (e ∷ []) groups' groups'' → AddsGroupsOf rows n wanted_type (take (i + 1) those) groups groups''
@@ -113,10 +113,10 @@ module _ (rows : List ℕ) (n : ℕ) (wanted_type : Option ℕ) where
 
 -- why an entry has no group
 pub other_type : (wanted_type : Option ℕ) (key : KeyAt) (len type_id : ℕ) → key ≡ places.Measure len type_id → is_of_type wanted_type type_id ≡ false → (n other : ℕ) → key ≡ places.Measure n other → is_of_type wanted_type other ≡ true → ⊥
-other_type wanted_type key len type_id is no n other own of_type =
+other_type wanted_type key len type_id is wrong_type n other own of_type =
     let both = sym is ∙ own in
     let same : type_id ≡ other = cc in
-    absurd (let wrong = sym no ∙ ap (is_of_type wanted_type) same ∙ of_type in cc)
+    absurd (let wrong = sym wrong_type ∙ ap (is_of_type wanted_type) same ∙ of_type in cc)
 
 pub no_measure : (wanted_type : Option ℕ) (key : KeyAt) (start count : ℕ) → key ≡ places.Word start count → (n other : ℕ) → key ≡ places.Measure n other → is_of_type wanted_type other ≡ true → ⊥
 no_measure wanted_type key start count is n other own of_type = absurd (let both = sym is ∙ own in cc)

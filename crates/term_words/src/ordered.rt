@@ -78,12 +78,7 @@ fn has_any(list: &Listing) -> bool
 }
 
 /// Adds a posting by length and type, unless there are some by words. An `Err` changes nothing.
-fn push_size(
-    sizes: &mut Listing,
-    words: &Listing,
-    key: Key<'_>,
-    row: u32,
-) -> Result<(), AllocError>
+fn push_size(sizes: &mut Listing, words: &Listing, key: Key<'_>, row: u32) -> Result<(), AllocError>
     requires size { IsSizeKey (key_of key) }
     requires few { (length sizes.old + length words.now) + 1 < 2 ^ 32 }
     ensures ok { OnOk result (seen_in sizes.new words.now
@@ -157,7 +152,7 @@ fn size_at(sizes: &Listing, number: usize, near: usize) -> Option<Placed<'_>>
 }
 
 /// A posting of the second part, with the number of its row.
-fn placed<'a>(sizes: &Listing, p: Posting<'a>) -> Option<Placed<'a>>
+fn with_row<'a>(sizes: &Listing, p: Posting<'a>) -> Option<Placed<'a>>
     requires { p.row < length sizes.now }
     ensures { SaysPlaced (Some (by_rank sizes.now (keyed p.entry.row (key_of p.entry.key)))) result }
 {
@@ -183,7 +178,7 @@ fn word_at<'a>(
     ensures { SaysPlaced (slice_get (map (by_rank sizes.now) words.now) number) result }
 {
     match words.at(number, near) {
-        Some(p) => placed(sizes, p),
+        Some(p) => with_row(sizes, p),
         None => None,
     }
 }

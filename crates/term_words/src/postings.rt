@@ -15,7 +15,7 @@ use crate::keys::{Key, KeyAt};
 use crate::known::number_of;
 use crate::sealed::Sealed;
 use crate::sealing::listed;
-use crate::splitting::words_of;
+use crate::splitting::{Keys, words_of};
 use history_model::StampedRow;
 use rf2_values::Body;
 use std::alloc::{AllocError, Global};
@@ -72,6 +72,29 @@ fn post(
     Ok(())
 }
 
+/// Adds the postings of words. An `Err` may leave some of them.
+fn post_each(
+    alloc: Global,
+    text: &mut Vec<u8>,
+    keys: &mut Vec<KeyAt>,
+    slots: &mut Vec<u32>,
+    pushed: &mut Vec<Pushed>,
+    words: &Keys,
+    row: u32,
+) -> Result<(), AllocError>
+    ensures ok { ArePushed text.old.items keys.old.items pushed.old.items
+        → OnOk result (IsPostedWith text.old.items keys.old.items pushed.old.items
+        (map (keyed row) words.now) text.new.items keys.new.items pushed.new.items) }
+    ensures some { ArePushed text.old.items keys.old.items pushed.old.items
+        → PostsSome text.old.items keys.old.items pushed.old.items
+        text.new.items keys.new.items pushed.new.items }
+{
+    for number in 0..words.len() {
+        post(alloc, text, keys, slots, pushed, words.at(number), row)?;
+    }
+    Ok(())
+}
+
 /// Adds the postings of a term's words. An `Err` may leave some of them.
 fn post_words(
     alloc: Global,
@@ -91,10 +114,7 @@ fn post_words(
         text.new.items keys.new.items pushed.new.items }
 {
     let words = words_of(alloc, term)?;
-    for number in 0..words.len() {
-        post(alloc, text, keys, slots, pushed, words.at(number), row)?;
-    }
-    Ok(())
+    post_each(alloc, text, keys, slots, pushed, &words, row)
 }
 
 /// How many characters a term has.

@@ -6,8 +6,8 @@ use Rattle.term_words.proofs.search.is_enough.Goals as goal
 pub returns-then-next-last : goal.returns-then-next-last
 returns-then-next-last c = inl refl
 
-pub returns-then-count : goal.returns-then-count
-returns-then-count c = inl refl
+pub returns-then-len-count : goal.returns-then-len-count
+returns-then-len-count c = inl refl
 
 pub returns : goal.returns
 returns c =

@@ -4,8 +4,8 @@ use Rattle.term_prefix.specs.Terms.{TermAt}
 use Rattle.term_words.proofs.Splits.{seen_length}
 use Rattle.term_words.proofs.ordered.Ordered.len.Goals as goal
 
-pub overflow_add : goal.overflow_add
-overflow_add c =
+pub overflow_add-result : goal.overflow_add-result
+overflow_add-result c =
     let a = c.len.ensures in
     let b = c.len-2.ensures in
     let few = c.self.invariant.few in
