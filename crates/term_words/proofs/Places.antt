@@ -13,19 +13,20 @@ use Rattle.term_words.proofs.Chained.{get-take, get-drop}
 
 -- ---- the places of a byte
 
+later_place : (test : ℕ → Bool) (hay : List ℕ) (i n j : ℕ) → (i + 1 ≤ j) × (j < (i + 1) + n) × (test (slice_index hay j) ≡ true) → (i ≤ j) × (j < i + suc n) × (test (slice_index hay j) ≡ true)
+later_place test hay i n j w = let low = w.0 in let high = w.1 in (omega (arith, low), omega (arith, high), w.2)
+
+place_by : (test : ℕ → Bool) (hay later : List ℕ) (i n j : ℕ) (b : Bool) → test (slice_index hay i) ≡ b → (Has later j → (i + 1 ≤ j) × (j < (i + 1) + n) × (test (slice_index hay j) ≡ true)) → Has (cond b (i ∷ later) later) j → (i ≤ j) × (j < i + suc n) × (test (slice_index hay j) ≡ true)
+place_by test hay later i n j true is f h = elim h [
+  | inl same ↦ (omega (arith, same), omega (arith, same), subst (λ m. test (slice_index hay m) ≡ true) same is)
+  | inr rest ↦ later_place test hay i n j (f rest)
+]
+place_by test hay later i n j false is f h = later_place test hay i n j (f h)
+
 place_from : (test : ℕ → Bool) (hay : List ℕ) (i n j : ℕ) → Has (places_from test hay i n) j → (i ≤ j) × (j < i + n) × (test (slice_index hay j) ≡ true)
 unfolding places_from
 place_from test hay i zero j h = absurd h
-place_from test hay i (suc n) j h = by (test (slice_index hay i)) refl h where
-  later : Has (places_from test hay (i + 1) n) j → (i ≤ j) × (j < i + suc n) × (test (slice_index hay j) ≡ true)
-  later k = let w = place_from test hay (i + 1) n j k in let low = w.0 in let high = w.1 in (omega (arith, low), omega (arith, high), w.2)
-
-  by : (b : Bool) → test (slice_index hay i) ≡ b → Has (cond b (i ∷ places_from test hay (i + 1) n) (places_from test hay (i + 1) n)) j → (i ≤ j) × (j < i + suc n) × (test (slice_index hay j) ≡ true)
-  by true is k = elim k [
-    | inl same ↦ (omega (arith, same), omega (arith, same), subst (λ m. test (slice_index hay m) ≡ true) same is)
-    | inr rest ↦ later rest
-  ]
-  by false is k = later k
+place_from test hay i (suc n) j h = place_by test hay (places_from test hay (i + 1) n) i n j (test (slice_index hay i)) refl (λ k. place_from test hay (i + 1) n j k) h
 
 from_place : (test : ℕ → Bool) (hay : List ℕ) (i n j : ℕ) → i ≤ j → j < i + n → test (slice_index hay j) ≡ true → Has (places_from test hay i n) j
 unfolding places_from

@@ -1,10 +1,12 @@
 //! Rows in groups by the lengths of their terms.
 
-ghost use Rattle.std.specs.Prelude.{◌≡◌, ◌∷◌, [], IfOk, OnOk};
+ghost use Rattle.std.specs.Prelude.{◌≡◌, ◌∷◌, [], ℕ, List, IfOk, OnOk};
 ghost use Rattle.std.specs.List.{AllByRecursion};
 ghost use Rattle.std.specs.List.Sorted.{IsPermutation, IsNonDecreasingBy};
 ghost use Rattle.word_model.specs.Words.{is_of_type};
-ghost use Rattle.term_words.specs.Private.{all_in, IsUsable, AddsGroupsOf, AddsGroups, AreGroups};
+ghost use Rattle.term_words.specs.Laid.{postings_in};
+ghost use Rattle.term_words.specs.Private.Chains.{AreEntries};
+ghost use Rattle.term_words.specs.Private.{IsUsable, AddsGroupsOf, AddsGroups, AreGroups};
 
 use crate::keys::KeyAt;
 use crate::listing::Entry;
@@ -62,17 +64,17 @@ fn add_group<'a>(
 /// Adds the rows of a list in groups, those of the wanted type.
 fn add_groups<'a>(
     groups: &mut Vec<Group<'a>>,
-    split: &Split<'a>,
+    entries: &[Entry],
+    rows: &'a [u32],
     segment: usize,
     wanted_type: Option<u64>,
 ) -> Result<(), AllocError>
-    requires { IsUsable split.now }
-    ensures { OnOk result (AddsGroups (all_in split.now.sizes) segment wanted_type
+    ensures { (text : List ℕ) → AreEntries text entries.now rows.now
+        → OnOk result (AddsGroups (postings_in text entries.now rows.now) segment wanted_type
         groups.old.items groups.new.items) }
 {
-    let sizes = split.sizes;
-    for e in sizes.entries {
-        add_group(groups, sizes.rows, e, segment, wanted_type)?;
+    for e in entries {
+        add_group(groups, rows, e, segment, wanted_type)?;
     }
     Ok(())
 }
@@ -97,7 +99,8 @@ pub(crate) fn groups_of<'a>(
 {
     let mut groups = Vec::new(alloc);
     for (segment, split) in splits.iter().enumerate() {
-        add_groups(&mut groups, split, segment, wanted_type)?;
+        let sizes = split.sizes;
+        add_groups(&mut groups, sizes.entries, sizes.rows, segment, wanted_type)?;
     }
     sort_by_length(&mut groups);
     Ok(groups)

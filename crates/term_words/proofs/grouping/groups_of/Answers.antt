@@ -1,5 +1,5 @@
-use Rattle.std.proofs.Common.{◌≡◌, [], ◌∷◌, ◌++◌, sym, ap, subst, ◌∙◌, length, take, take_all, arith}
-use Rattle.std.proofs.lemmas.List.{take_more, length-take-le}
+use Rattle.std.proofs.Common.{◌≡◌, [], get_or, refl, sym, subst, take, take_all}
+use Rattle.term_words.specs.declared.ordered.Split.{Split}
 use Rattle.term_words.specs.Private.{AreGroups}
 use Rattle.term_words.proofs.Groups.{groups_none, groups_after, groups_moved}
 use Rattle.term_words.proofs.Marks.{usable_at}
@@ -8,15 +8,20 @@ use Rattle.term_words.proofs.grouping.groups_of.Goals as goal
 pub loop-segment-init : goal.loop-segment-init
 loop-segment-init c = subst (λ gs. AreGroups [] c.args.wanted_type gs) (sym c.new-groups.ensures.items) (groups_none c.args.wanted_type)
 
+abbrev nothing : Split
+nothing =
+    record {
+      sizes = record { text = record { ref_ptr = (0, 0); now = [] }; entries = record { ref_ptr = (0, 0); now = [] }; rows = record { ref_ptr = (0, 0); now = [] } };
+      words = record { text = record { ref_ptr = (0, 0); now = [] }; entries = record { ref_ptr = (0, 0); now = [] }; rows = record { ref_ptr = (0, 0); now = [] } };
+    }
+
 pub loop-segment-preserved : goal.loop-segment-preserved
 loop-segment-preserved c =
-    let split = c.index-splits-segment.result in
-    groups_after c.args.splits.now c.loop-segment.segment split split c.args.wanted_type c.loop-segment.groups.items c.add_groups.new.groups.items c.loop-segment-test.true c.index-splits-segment.is c.loop-segment.invariant c.in_ok-add_groups.ensures
-
-pub add_groups-requires : goal.add_groups-requires
-add_groups-requires c =
-    let split = c.index-splits-segment.result in
-    usable_at c.args.splits.now c.loop-segment.segment split split c.loop-segment-test.true c.index-splits-segment.is c.requires
+    let splits = c.args.splits.now in
+    let i = c.loop-segment.segment in
+    let split = get_or splits i nothing in
+    let usable = usable_at splits i split nothing c.loop-segment-test.true refl c.requires in
+    groups_after splits i split nothing c.args.wanted_type c.loop-segment.groups.items c.add_groups.new.groups.items c.loop-segment-test.true refl c.loop-segment.invariant (c.in_ok-add_groups.ensures split.sizes.text.now usable.0)
 
 pub returns-clause-groups : goal.returns-clause-groups
 returns-clause-groups c =

@@ -13,9 +13,9 @@ loop-number-init c =
 pub loop-number-preserved : goal.loop-number-preserved
 loop-number-preserved c =
     let split = c.args.split.now in
-    marked_next (all_in split.words) c.args.wanted.now _ c.loop-number.number (length split.sizes.rows.now) c.loop-number.marks.items c.in_ok-narrowed.field-0.items c.at.ensures c.loop-number.invariant (rw c.as_slice.ensures.value at c.in_ok-narrowed.ensures)
+    marked_next (all_in split.words) c.args.wanted.now _ c.loop-number.number (length split.sizes.rows.now) c.loop-number.marks.items c.in_ok-marks-2.marks.items c.at.ensures c.loop-number.invariant (rw c.as_slice.ensures.value at c.in_ok-marks-2.ensures)
 
 pub returns : goal.returns
 returns c =
     let split = c.args.split.now in
-    subst (λ ps. AreMarked (all_in split.words) ps (length split.sizes.rows.now) c.loop-number.marks.items) (take_all c.loop-number.number c.args.wanted.now (rw c.len.ensures at c.loop-number-test.false)) c.loop-number.invariant
+    subst (λ ps. AreMarked (all_in split.words) ps (length split.sizes.rows.now) c.loop-number.marks.items) (take_all c.loop-number.number c.args.wanted.now (rw c.len-number-end.ensures at c.loop-number-test.false)) c.loop-number.invariant

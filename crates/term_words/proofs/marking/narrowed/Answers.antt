@@ -18,8 +18,8 @@ loop-e-preserved c =
     let rows = c.args.words.rows.now in
     let i = c.loop-e.e-index in
     let d : Entry = record { key = places.Measure 0 0; first = 0; count = 0 } in
-    adds_entry (zeros (length c.args.among.now)) c.loop-e.marks.items c.mark_rows.new.marks.items c.args.among.now rows those i (get_or those i d) d c.loop-e-test.true refl c.loop-e.invariant
-    (rw c.rows_of.ensures at c.mark_rows.ensures)
+    adds_entry (zeros (length c.args.among.now)) c.loop-e.marks.items c.mark_ranks.new.marks.items c.args.among.now rows those i (get_or those i d) d c.loop-e-test.true refl c.loop-e.invariant
+    (rw c.rows_of.ensures at c.mark_ranks.ensures)
 
 pub returns : goal.returns
 returns c =
