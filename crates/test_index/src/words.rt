@@ -1,6 +1,6 @@
 //! Words of descriptions' terms, and merged postings of words.
 
-ghost use Rattle.std.specs.Prelude.{◌≡◌};
+ghost use Rattle.term_prefix.specs.Merged.{IsMergeOfTerms};
 
 use crate::lists::{alone, index_of, listed, reader_of};
 use crate::rows::{LAST_DAY, day, description, numbered, row};
@@ -246,20 +246,35 @@ fn places_of(alloc: Global, rows: &[StampedRow]) -> Result<PlaceList, Fail> {
     listed(alloc, places)
 }
 
-/// The postings of two lists in one, merged a few at a time.
-fn merged(
-    alloc: Global,
+/// Merges a few postings at a time, until none is left.
+fn advance_words(
+    merging: &mut Merging,
     a: &Sealed,
     b: &Sealed,
     numbers: &Numbers<'_>,
-) -> Result<Sealed, Fail> {
-    let mut merging = Merging::new(alloc);
+) -> Result<(), Fail>
+    ensures { IsMergeOfTerms numbers.now a.now b.now merging.old
+        → IsMergeOfTerms numbers.now a.now b.now merging.new }
+{
     for _step in 0..100 {
+        if merging.left(a, b) == 0 {
+            return Ok(());
+        }
         merging.advance(a, b, numbers, 7)?;
     }
-    if merging.left(a, b) != 0 {
-        return Err(Fail::from("not merged"));
-    }
+    Err(Fail::from("not merged"))
+}
+
+/// The postings of two lists in one.
+fn merged(
+    alloc: Global,
+    [first, second]: [&[StampedRow]; 2],
+    numbers: &Numbers<'_>,
+) -> Result<Sealed, Fail> {
+    let a = post_words(alloc, first)?;
+    let b = post_words(alloc, second)?;
+    let mut merging = Merging::new(alloc);
+    advance_words(&mut merging, &a, &b, numbers)?;
     Ok(merging.seal())
 }
 
@@ -276,7 +291,7 @@ fn merged_words_are_found(rt: HostRuntime) -> Result<(), Fail> {
         return Err(Fail::from("too many"));
     }
     let numbers = Numbers::new(a, b);
-    let both = merged(alloc, &post_words(alloc, &first)?, &post_words(alloc, &second)?, &numbers)?;
+    let both = merged(alloc, [&first, &second], &numbers)?;
     let mut words = WordLists::new(alloc)?;
     words.add(both);
     let lists = alone_list(alloc, described(alloc, 0, 1)?)?;
