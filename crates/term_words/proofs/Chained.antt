@@ -1,10 +1,10 @@
 -- Entries whose rows stand one after the other.
 use Rattle.std.proofs.Common.{◌≡◌, ◌⊎◌, ℕ, zero, suc, ◌+◌, ◌-◌, ◌<◌, ◌≤◌, true, false, List, [], ◌∷◌, ◌++◌, length, map, take, drop, refl, sym, ap, subst, inl, inr, ◌∙◌, arith, append_assoc, append-nil, take_all}
-use Rattle.std.specs.Prelude.{Bool, Some, slice_get, nat_le, flat_map}
+use Rattle.std.specs.Prelude.{Bool, Some, slice_get, nat_le}
 use Rattle.std.specs.Option.{option_map}
 use Rattle.std.specs.List.{AllByRecursion}
 use Rattle.std.proofs.lemmas.List.{length-append, length-drop, length-take-le, take-append-le, drop-append-le, map_push}
-use Rattle.std.proofs.lemmas.Option.{slice_get-map, same_Some, slice_get_within}
+use Rattle.std.proofs.lemmas.Option.{slice_get-map, same_Some}
 use Rattle.std.proofs.lemmas.Grind.{flat_map-append}
 use Rattle.std.proofs.lemmas.Bool.Decides.{nat_tests}
 use Rattle.std.proofs.Math.Seq.{drop-append_seam}
@@ -19,7 +19,7 @@ use Rattle.term_words.specs.declared.listing.Entry.{Entry}
 use Rattle.term_words.specs.Posted.{keyed, word_key}
 use Rattle.term_words.specs.Laid.{key_in, EndsWithin, EachEndsWithin, keys_in, rows_of, entry_postings, postings_in}
 use Rattle.term_words.specs.Private.Chains.{AreChained, AreEntries}
-use Rattle.term_words.specs.Private.{IsLaid, IsLast, grown}
+use Rattle.term_words.specs.Private.{IsLaid, grown}
 
 below_or_not : (m n : ℕ) → (m < n) ⊎ (n ≤ m)
 below_or_not zero zero = inr (omega arith)

@@ -1,12 +1,12 @@
 -- The rows of the places that are kept are those that have the words, in their order.
 use Rattle.std.proofs.Common.{◌≡◌, ◌⊎◌, ℕ, zero, suc, ◌+◌, ◌<◌, ◌≤◌, Bool, true, false, List, [], ◌∷◌, ◌++◌, length, get_or, take, drop, map, refl, sym, ap, subst, inl, inr, ◌∙◌, arith}
 use Rattle.std.specs.Ordering.{nat_cmp}
-use Rattle.std.specs.Prelude.{nat_eq, ◌||◌, if◌then◌else◌, Option, Some, None, chars, slice_get, slice_index_or, ◌&&◌}
+use Rattle.std.specs.Prelude.{nat_eq, ◌||◌, if◌then◌else◌, Option, Some, chars, slice_get}
 use Rattle.std.specs.List.{filter, list_any, list_all, starts_with}
 use Rattle.std.specs.Ordering.{ordering_then}
-use Rattle.std.specs.Cmp.{IsTotalOrder, nat_cmp_total, ranked as number_ranked, on_total, tied_itself}
+use Rattle.std.specs.Cmp.{IsTotalOrder, nat_cmp_total, ranked as number_ranked, on_total}
 use Rattle.std.specs.declared.cmp.Ordering.{Ordering}
-use Rattle.std.specs.declared.cmp.Ordering.TheVariants.{Less, Equal, Greater}
+use Rattle.std.specs.declared.cmp.Ordering.TheVariants.{Less, Equal}
 use Rattle.std.proofs.lemmas.Cmp.{then_total}
 use Rattle.std.proofs.lemmas.Bool.{and_parts}
 use Rattle.list_lemmas.proofs.Tests.{both_equal, less_from_below}
@@ -17,18 +17,17 @@ use Rattle.rf2_values.specs.declared.key.Key.{Key}
 use Rattle.rf2_values.specs.Row.{RowValue, kind_of, kind_of_body}
 use Rattle.rf2_values.specs.Key.{key_of}
 use Rattle.history_model.specs.declared.stamped.StampedRow.{StampedRow}
-use Rattle.history_model.specs.InOrder.{Has, IsAscending, put_all, in_order}
+use Rattle.history_model.specs.InOrder.{Has, IsAscending, in_order}
 use Rattle.history_model.specs.History.{row_cmp}
 use Rattle.history_model.specs.Queries.{get, snapshot}
 use Rattle.word_model.specs.Words.{words, is_of_type, some_begins, begin_with_all, says_words, has_words, term_length, shortest_cmp, words_found, some_words_found}
 use Rattle.std.proofs.lemmas.Option.{same_Some, slice_get_within}
-use Rattle.history_model.proofs.InOrder.{Has-append_left, Has-append_right, Has-append_cases, Has-all, Has-put_all_cases, Has-put_all_new, IsAscending-in_order}
+use Rattle.history_model.proofs.InOrder.{Has-append_left, Has-append_right, Has-append_cases, Has-put_all_cases, Has-put_all_new, IsAscending-in_order}
 use Rattle.history_model.proofs.Filtered.{Has-filter, Has-filter_from, Has-map, Has-map_from, IsAscending-take}
-use Rattle.history_model.proofs.Items.{Has-if, Has-take, Has-slice_get}
+use Rattle.history_model.proofs.Items.{Has-if, Has-take}
 use Rattle.history_model.proofs.Ascents.{one_row_of_a_component}
 use Rattle.history_model.proofs.Snapshots.{IsAscending-rows_at, IsAscending-listed}
 use Rattle.history_model.specs.Lists.{listed}
-use Rattle.segment.specs.declared.place.RowPlace.{RowPlace}
 use Rattle.segment.specs.Standing.{places_of, StandsAt}
 use Rattle.as_of_index.specs.declared.as_of.AsOf.{AsOf}
 use Rattle.as_of_index.specs.declared.chosen.Chosen.{Chosen}
@@ -36,10 +35,9 @@ use Rattle.as_of_index.specs.Chosen.{StandAtAll}
 use Rattle.as_of_index.specs.Current.{rows_seen, IsPlaceOfRow, IsCurrentAt}
 use Rattle.as_of_index.specs.Places.{item_at, ArePlaces}
 use Rattle.as_of_index.specs.Private.Chosen.{ranked_cmp}
-use Rattle.as_of_index.specs.Private.Once.{IsThere}
 use Rattle.as_of_index.specs.Private.Postings.{numbered}
 use Rattle.as_of_index.proofs.Among.{looked_up}
-use Rattle.as_of_index.proofs.Current.{standing_row, one_row, shown_ascends, current_where, AllCurrent, rows_for, stand_for, length-rows_for, row_for, for_row, ascending_rows_for}
+use Rattle.as_of_index.proofs.Current.{standing_row, one_row, current_where, AllCurrent, rows_for, stand_for, length-rows_for, row_for, for_row, ascending_rows_for}
 use Rattle.as_of_index.proofs.First.{taken_or_above, same_first}
 use Rattle.as_of_index.proofs.Numbered.{stands_there, place_of_row}
 use Rattle.as_of_index.proofs.Pushing.{stands, posting_there, posted_as}

@@ -1,24 +1,22 @@
 -- Rows in groups by the lengths of their terms.
-use Rattle.std.proofs.Common.{◌≡◌, ◌⊎◌, ℕ, zero, suc, ◌+◌, ◌-◌, ◌<◌, ◌≤◌, Bool, true, false, List, [], ◌∷◌, ◌++◌, length, get_or, take, map, refl, sym, ap, subst, inl, inr, ◌∙◌, arith, append-nil, append_assoc}
-use Rattle.std.specs.Prelude.{Option, Some, None, slice_get}
+use Rattle.std.proofs.Common.{◌≡◌, ◌⊎◌, ℕ, zero, suc, ◌+◌, ◌-◌, ◌<◌, true, false, List, [], ◌∷◌, ◌++◌, length, get_or, take, refl, sym, ap, subst, inl, inr, ◌∙◌, arith, append-nil, append_assoc}
+use Rattle.std.specs.Prelude.{Option, Some, slice_get}
 use Rattle.std.specs.List.Sorted.{IsPermutation}
 use Rattle.std.proofs.lemmas.List.{take_more, length-take-le}
 use Rattle.std.proofs.lemmas.List.Sorted.{IsPermutation-sym}
-use Rattle.std.proofs.lemmas.Option.{same_Some, slice_get_within, slice_get_read}
-use Rattle.history_model.specs.InOrder.{Has}
+use Rattle.std.proofs.lemmas.Option.{same_Some}
 use Rattle.word_model.specs.Words.{is_of_type}
 use Rattle.history_model.proofs.InOrder.{Has-append_left, Has-append_right, Has-append_cases}
-use Rattle.history_model.proofs.Items.{Has-permuted, Has-slice_get}
-use Rattle.term_prefix.specs.Terms.{TermAt}
+use Rattle.history_model.proofs.Items.{Has-permuted}
 use Rattle.term_words.specs.declared.grouping.Group.{Group}
 use Rattle.term_words.specs.declared.keys.KeyAt.{KeyAt}
 use Rattle.term_words.specs.declared.keys.KeyAt.TheVariants as places
 use Rattle.term_words.specs.declared.listing.Entry.{Entry}
 use Rattle.term_words.specs.declared.ordered.Split.{Split}
 use Rattle.term_words.specs.Posted.{keyed, measure_key}
-use Rattle.term_words.specs.Laid.{key_in, rows_of, postings_in}
+use Rattle.term_words.specs.Laid.{key_in, postings_in}
 use Rattle.term_words.specs.Private.Chains.{AreEntries}
-use Rattle.term_words.specs.Private.{all_in, IsSized, IsGroupOf, IsInGroup, AddsGroupsOf, AddsGroups, AreGroups}
+use Rattle.term_words.specs.Private.{all_in, IsSized, IsGroupOf, AddsGroupsOf, AddsGroups, AreGroups}
 use Rattle.term_words.proofs.Chained.{HasPosting, posting-of, row-posted}
 
 -- the groups of the first lists

@@ -1,5 +1,5 @@
 -- Different keys with numbers, and postings that are added.
-use Rattle.std.proofs.Common.{◌≡◌, ℕ, zero, suc, ◌+◌, ◌<◌, ◌≤◌, List, [], ◌∷◌, ◌++◌, length, get_or, take, map, refl, sym, ap, subst, ◌∙◌, arith, append_assoc, append-nil}
+use Rattle.std.proofs.Common.{◌≡◌, ℕ, zero, suc, ◌+◌, ◌<◌, ◌≤◌, List, [], ◌∷◌, ◌++◌, length, take, map, refl, sym, ap, subst, ◌∙◌, arith, append_assoc, append-nil}
 use Rattle.std.specs.Prelude.{Some, slice_get, slice_index_or, Result, Ok, Err, OnOk, OnErr}
 use Rattle.std.specs.Option.{option_map}
 use Rattle.std.specs.List.{AllByRecursion}
@@ -9,7 +9,7 @@ use Rattle.term_prefix.specs.Terms.{TermAt}
 use Rattle.term_words.specs.declared.keys.KeyAt.{KeyAt}
 use Rattle.term_words.specs.declared.postings.Pushed.{Pushed}
 use Rattle.term_words.specs.Posted.{keyed}
-use Rattle.term_words.specs.Laid.{key_in, keys_in, EndsWithin, EachEndsWithin, pushed_in, all_pushed_in, ArePushed}
+use Rattle.term_words.specs.Laid.{key_in, keys_in, EachEndsWithin, pushed_in, all_pushed_in, ArePushed}
 use Rattle.term_words.specs.Private.{IsLaid, KeepsKeys, IsPostedWith}
 use Rattle.term_words.proofs.Chained.{keys-append, each-later, each-push}
 

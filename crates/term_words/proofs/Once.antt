@@ -1,6 +1,6 @@
 -- Each row has one rank at most, since it is posted once by length and type.
 use Rattle.std.proofs.Common.{◌≡◌, ◌⊎◌, ℕ, zero, suc, ◌+◌, ◌<◌, ◌≤◌, Bool, true, false, List, [], ◌∷◌, ◌++◌, length, get_or, map, cond, refl, sym, ap, subst, inl, inr, ◌∙◌, arith}
-use Rattle.std.specs.Prelude.{Some, None, slice_get, nat_eq, chars, if◌then◌else◌}
+use Rattle.std.specs.Prelude.{Some, slice_get, nat_eq, chars, if◌then◌else◌}
 use Rattle.std.specs.List.{sum_by}
 use Rattle.std.specs.List.Sorted.{IsPermutation}
 use Rattle.std.proofs.lemmas.Bool.Decides.{nat_tests}
@@ -12,7 +12,7 @@ use Rattle.rf2_values.specs.declared.row.Body.TheVariants as body
 use Rattle.rf2_values.specs.Row.{RowValue}
 use Rattle.history_model.specs.declared.stamped.StampedRow.{StampedRow}
 use Rattle.word_model.specs.Words.{words}
-use Rattle.as_of_index.specs.Postings.{posted_all, AllPosted}
+use Rattle.as_of_index.specs.Postings.{posted_all}
 use Rattle.term_prefix.specs.Terms.{TermAt}
 use Rattle.term_words.specs.declared.ordered.Split.{Split}
 use Rattle.term_words.specs.Posted.{ArePosted, posted_words, keyed, keys_of, measure_key, word_key}

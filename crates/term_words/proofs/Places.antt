@@ -1,10 +1,10 @@
 -- The rows of a group that are marked.
-use Rattle.std.proofs.Common.{◌≡◌, ◌⊎◌, ℕ, zero, suc, ◌+◌, ◌-◌, ◌<◌, ◌≤◌, Bool, true, false, List, [], ◌∷◌, ◌++◌, length, get_or, take, drop, map, cond, refl, sym, ap, subst, inl, inr, ◌∙◌, arith}
+use Rattle.std.proofs.Common.{◌≡◌, ◌⊎◌, ℕ, zero, suc, ◌+◌, ◌-◌, ◌<◌, ◌≤◌, Bool, true, false, List, [], ◌∷◌, length, take, drop, cond, refl, sym, ap, subst, inl, inr, ◌∙◌, arith}
 use Rattle.std.specs.Prelude.{Option, Some, None, slice_get, slice_index, nat_eq}
 use Rattle.std.specs.Option.{option_to_list}
 use Rattle.std.proofs.lemmas.Bool.Decides.{nat_tests}
-use Rattle.std.proofs.lemmas.Option.{same_Some, slice_get_within, slice_get-get_or, get_or_from_slice_get}
-use Rattle.memchr.specs.Find.{is_byte, places_from, places_between, places}
+use Rattle.std.proofs.lemmas.Option.{same_Some, slice_get_within}
+use Rattle.memchr.specs.Find.{is_byte, places_from, places}
 use Rattle.history_model.specs.InOrder.{Has}
 use Rattle.history_model.proofs.Items.{Has-flat_map, Has-flat_map_from}
 use Rattle.term_words.specs.declared.grouping.Group.{Group}

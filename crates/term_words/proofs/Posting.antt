@@ -9,7 +9,6 @@ use Rattle.segment.specs.Standing.{places_of}
 use Rattle.as_of_index.specs.Numbers.{TwoLists}
 use Rattle.as_of_index.proofs.Pushing.{all_more, all_set, all_removed}
 use Rattle.as_of_index.proofs.Unions.{merged_postings}
-use Rattle.term_prefix.specs.Terms.{TermAt}
 use Rattle.term_prefix.specs.Merged.{moved, in_both}
 use Rattle.term_words.specs.Posted.{posted_words, keyed, keys_of, term_keys, PostedWordsMore, PostedWordsMerged, MergedWordsArePosted}
 

@@ -12,7 +12,7 @@ use Rattle.word_model.specs.Words.{is_of_word, is_between_words, is_no_mark, has
 use Rattle.term_words.specs.declared.keys.KeyAt.{KeyAt}
 use Rattle.term_words.specs.declared.keys.KeyAt.TheVariants as places
 use Rattle.term_words.specs.Posted.{word_key}
-use Rattle.term_words.specs.Laid.{key_in, keys_in, EndsWithin, EachEndsWithin}
+use Rattle.term_words.specs.Laid.{key_in, keys_in, EachEndsWithin}
 use Rattle.term_words.specs.Private.{IsClosed, Leads, Follows}
 use Rattle.term_words.proofs.Chained.{keys-append, each-later, each-push}
 

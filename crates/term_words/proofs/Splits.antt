@@ -1,23 +1,21 @@
 -- Postings in two parts.
-use Rattle.std.proofs.Common.{◌≡◌, ◌⊎◌, ℕ, zero, suc, ◌+◌, ◌-◌, ◌<◌, ◌≤◌, ◌^◌, Bool, true, false, List, [], ◌∷◌, ◌++◌, length, get_or, map, refl, sym, ap, subst, inl, inr, ◌∙◌, arith, append_assoc, append-nil}
+use Rattle.std.proofs.Common.{◌≡◌, ℕ, zero, suc, ◌+◌, ◌-◌, ◌<◌, ◌≤◌, ◌^◌, true, false, List, [], ◌∷◌, ◌++◌, length, get_or, map, refl, sym, ap, subst, inl, inr, ◌∙◌, arith, append_assoc, append-nil}
 use Rattle.std.specs.Prelude.{Option, Some, None, Result, Ok, Err, OnOk, OnErr, slice_get, nat_eq}
 use Rattle.std.specs.Option.{option_map}
 use Rattle.std.specs.List.{AllByRecursion, starts_with}
 use Rattle.std.specs.Ordering.{nat_cmp, is_lt}
 use Rattle.std.specs.Cmp.Lexicographic.{slice_cmp}
 use Rattle.std.proofs.lemmas.List.{length-append, length-map, map_push}
-use Rattle.std.proofs.lemmas.Option.{same_Some, slice_get_within, slice_get-map, get_or_from_slice_get}
+use Rattle.std.proofs.lemmas.Option.{same_Some, slice_get-map, get_or_from_slice_get}
 use Rattle.history_model.specs.InOrder.{Has}
 use Rattle.history_model.proofs.InOrder.{Has-all, Has-append_left, Has-append_right, Has-append_cases}
 use Rattle.history_model.proofs.Filtered.{Has-map, Has-map_from}
 use Rattle.history_model.proofs.Items.{Has-slice_get, number_of_item}
 use Rattle.term_prefix.specs.Terms.{TermAt, TextsRise}
-use Rattle.term_words.specs.declared.listing.Posting.{Posting}
 use Rattle.term_words.specs.declared.ordered.Placed.{Placed}
 use Rattle.term_words.specs.declared.ordered.Split.{Split}
 use Rattle.term_words.specs.Posted.{keyed, measure_key, word_key}
 use Rattle.term_words.specs.Laid.{IsSizeKey, IsWordKey, row_of_rank, by_rank, seen_in, AreParted}
-use Rattle.term_words.specs.Private.Chains.{key_of}
 use Rattle.term_words.specs.Private.{SaysPlaced, all_in, PartsRise, IsSplit, IsUsable, AreSplit, IsBegun}
 use Rattle.term_words.proofs.Entries.{rise-behind, entries_rise}
 

@@ -1,12 +1,12 @@
 -- One posting more of a merge.
-use Rattle.std.proofs.Common.{◌≡◌, ℕ, ◌+◌, ◌-◌, false, true, List, refl, sym, ap, subst, ◌∙◌, arith}
-use Rattle.std.specs.Prelude.{Option, Some, None, Result, Ok, Err, OnOk, OnErr, slice_get, if◌then◌else◌}
+use Rattle.std.proofs.Common.{◌≡◌, ℕ, false, true, List, refl, sym, ap, subst, ◌∙◌}
+use Rattle.std.specs.Prelude.{Option, Some, None, Result, OnOk, OnErr, slice_get, if◌then◌else◌}
 use Rattle.std.specs.Ordering.{nat_cmp, is_lt}
 use Rattle.std.specs.Cmp.Lexicographic.{slice_cmp}
 use Rattle.std.proofs.lemmas.Option.{same_Some}
 use Rattle.as_of_index.specs.Numbers.{TwoLists}
 use Rattle.term_prefix.specs.Terms.{TermAt, TextsRise}
-use Rattle.term_prefix.specs.Merged.{MergedTerms, IsMergeOfTerms, terms_left}
+use Rattle.term_prefix.specs.Merged.{MergedTerms, terms_left}
 use Rattle.term_prefix.specs.Private.{next_of, first_taken, second_taken}
 use Rattle.term_prefix.proofs.InTurns.{IsStep, stepped_first, stepped_second, none_left}
 use Rattle.term_words.specs.declared.ordered.Placed.{Placed}

@@ -15,6 +15,7 @@ use term_words::{Merging, Postings, Sealed, WordLists, WordSearch, find};
 
 /// The type of a synonym, and that of a fully specified name.
 const SYNONYM: u64 = 900_000_000_000_013_009;
+
 const NAME: u64 = 900_000_000_000_003_001;
 
 /// The terms of descriptions that are numbered from 100 on. The thirteenth is inactive.

@@ -1,5 +1,4 @@
-use Rattle.std.proofs.Common.{◌≡◌, refl, sym, ◌∙◌}
-use Rattle.term_words.specs.declared.keys.KeyAt.TheVariants as places
+use Rattle.std.proofs.Common.{refl, sym, ◌∙◌}
 use Rattle.term_words.proofs.Groups.{one_group, no_group, other_type, no_measure}
 use Rattle.term_words.proofs.grouping.add_group.Goals as goal
 

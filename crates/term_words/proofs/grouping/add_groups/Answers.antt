@@ -1,4 +1,4 @@
-use Rattle.std.proofs.Common.{get_or, refl, subst, take, take_all}
+use Rattle.std.proofs.Common.{get_or, refl, subst, take_all}
 use Rattle.term_words.specs.declared.keys.KeyAt.TheVariants as places
 use Rattle.term_words.specs.declared.listing.Entry.{Entry}
 use Rattle.term_words.specs.Private.{AddsGroupsOf}

@@ -1,4 +1,4 @@
-use Rattle.std.proofs.Common.{◌≡◌, [], get_or, refl, sym, subst, take, take_all}
+use Rattle.std.proofs.Common.{[], get_or, refl, sym, subst, take_all}
 use Rattle.term_words.specs.declared.ordered.Split.{Split}
 use Rattle.term_words.specs.Private.{AreGroups}
 use Rattle.term_words.proofs.Groups.{groups_none, groups_after, groups_moved}

@@ -1,4 +1,4 @@
-use Rattle.std.proofs.Common.{◌≡◌, sym, subst}
+use Rattle.std.proofs.Common.{sym, subst}
 use Rattle.term_words.specs.Private.{KeepsKeys}
 use Rattle.term_words.proofs.Numbering.{same_keys}
 use Rattle.term_words.proofs.known.add.Goals as goal

@@ -1,8 +1,7 @@
-use Rattle.std.proofs.Common.{◌≡◌, ◌+◌, ◌∷◌, ◌++◌, [], length, sym, ap, subst, ◌∙◌, arith}
+use Rattle.std.proofs.Common.{◌∷◌, ◌++◌, [], length, sym, ap, subst, ◌∙◌, arith}
 use Rattle.term_words.specs.Laid.{postings_in}
 use Rattle.term_words.specs.Private.Chains.{AreEntries, key_of}
 use Rattle.term_words.specs.Posted.{keyed}
-use Rattle.term_words.specs.Private.{grown}
 use Rattle.term_words.proofs.Chained.{chain-last, grown_postings, grown_are}
 use Rattle.term_words.proofs.listing.push_to_last.Goals as goal
 

@@ -1,4 +1,4 @@
-use Rattle.std.proofs.Common.{◌≡◌, arith}
+use Rattle.std.proofs.Common.{arith}
 use Rattle.std.proofs.lemmas.Option.{slice_get_past, slice_get-get_or}
 use Rattle.term_words.proofs.Marks.{says_marked, says_none}
 use Rattle.term_words.proofs.marking.is_marked.Goals as goal

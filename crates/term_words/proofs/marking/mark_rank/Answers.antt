@@ -1,4 +1,4 @@
-use Rattle.std.proofs.Common.{◌≡◌, ◌∷◌, [], sym, subst, arith}
+use Rattle.std.proofs.Common.{◌∷◌, [], sym, subst, arith}
 use Rattle.std.proofs.lemmas.Option.{slice_get_within}
 use Rattle.term_words.specs.Private.{AddsMarks}
 use Rattle.term_words.proofs.Marks.{marked_one, unmarked_one}

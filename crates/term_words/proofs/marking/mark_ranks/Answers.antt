@@ -1,4 +1,4 @@
-use Rattle.std.proofs.Common.{get_or, refl, subst, take, take_all}
+use Rattle.std.proofs.Common.{get_or, refl, subst, take_all}
 use Rattle.term_words.specs.Private.{AddsMarks}
 use Rattle.term_words.proofs.Marks.{adds_none, adds_more}
 use Rattle.term_words.proofs.marking.mark_ranks.Goals as goal

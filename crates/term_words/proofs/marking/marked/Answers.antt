@@ -1,4 +1,4 @@
-use Rattle.std.proofs.Common.{◌≡◌, [], length, sym, subst, take, take_all}
+use Rattle.std.proofs.Common.{◌≡◌, [], length, sym, subst, take_all}
 use Rattle.term_words.specs.Private.{all_in, AreMarked}
 use Rattle.term_words.proofs.Marks.{ones, marked_first, marked_next}
 use Rattle.term_words.proofs.marking.marked.Goals as goal

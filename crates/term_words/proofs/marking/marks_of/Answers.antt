@@ -1,4 +1,4 @@
-use Rattle.std.proofs.Common.{◌≡◌, [], map, get_or, refl, subst, take, take_all}
+use Rattle.std.proofs.Common.{[], map, get_or, refl, subst, take_all}
 use Rattle.term_words.specs.declared.ordered.Split.{Split}
 use Rattle.term_words.specs.Private.{EachMarked}
 use Rattle.term_words.proofs.Marks.{marks_none, marks_next, usable_at}

@@ -1,4 +1,4 @@
-use Rattle.std.proofs.Common.{◌≡◌, [], get_or, length, refl, sym, subst, take, take_all}
+use Rattle.std.proofs.Common.{◌≡◌, [], get_or, length, refl, sym, subst, take_all}
 use Rattle.std.specs.Prelude.{flat_map}
 use Rattle.term_words.specs.declared.keys.KeyAt.TheVariants as places
 use Rattle.term_words.specs.declared.listing.Entry.{Entry}

@@ -1,4 +1,4 @@
-use Rattle.std.proofs.Common.{◌≡◌, arith}
+use Rattle.std.proofs.Common.{arith}
 use Rattle.term_words.proofs.Splits.{says_front, says_behind}
 use Rattle.term_words.proofs.ordered.placed_at.Goals as goal
 

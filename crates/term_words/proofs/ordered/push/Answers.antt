@@ -1,4 +1,4 @@
-use Rattle.std.proofs.Common.{◌≡◌, refl, sym, ap, subst}
+use Rattle.std.proofs.Common.{refl, sym, ap, subst}
 use Rattle.std.proofs.lemmas.Result.{on_err_weaker}
 use Rattle.term_words.specs.declared.keys.Key.{Key}
 use Rattle.term_words.specs.Laid.{IsSizeKey, IsWordKey, seen_in}

@@ -1,4 +1,3 @@
-use Rattle.std.proofs.Common.{◌≡◌}
 use Rattle.std.proofs.lemmas.Result.{on_ok_weaker}
 use Rattle.term_words.specs.Posted.{keyed}
 use Rattle.term_words.specs.Private.Chains.{key_of}

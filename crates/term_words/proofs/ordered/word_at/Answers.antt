@@ -1,4 +1,3 @@
-use Rattle.std.proofs.Common.{◌≡◌}
 use Rattle.term_words.specs.Posted.{keyed}
 use Rattle.term_words.specs.Private.Chains.{key_of}
 use Rattle.term_words.proofs.Splits.{word_below, says_word, says_no_word}

@@ -1,4 +1,4 @@
-use Rattle.std.proofs.Common.{◌≡◌, ◌∷◌, ◌++◌, [], sym, subst}
+use Rattle.std.proofs.Common.{◌∷◌, [], sym, subst}
 use Rattle.term_words.specs.Posted.{keyed}
 use Rattle.term_words.specs.Private.Chains.{key_of}
 use Rattle.term_words.specs.Private.{IsPostedWith}

@@ -1,4 +1,4 @@
-use Rattle.std.proofs.Common.{◌≡◌, ◌∷◌, ◌++◌, [], map, sym, ap, subst, ◌∙◌, take, take_all}
+use Rattle.std.proofs.Common.{◌++◌, map, subst, take, take_all}
 use Rattle.term_words.specs.Posted.{keyed}
 use Rattle.term_words.specs.Private.{IsPostedWith}
 use Rattle.term_words.proofs.Numbering.{posted_none, posted_both, words_next}

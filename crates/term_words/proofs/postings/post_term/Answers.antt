@@ -1,4 +1,4 @@
-use Rattle.std.proofs.Common.{◌≡◌, [], length, sym, ap, subst, ◌∙◌, take}
+use Rattle.std.proofs.Common.{[], sym, ap, subst, ◌∙◌, take}
 use Rattle.term_words.specs.Private.{IsPostedWith}
 use Rattle.term_words.proofs.Numbering.{taken_back}
 use Rattle.term_words.proofs.postings.post_term.Goals as goal

@@ -1,4 +1,4 @@
-use Rattle.std.proofs.Common.{◌≡◌, [], map, subst}
+use Rattle.std.proofs.Common.{[], map, subst}
 use Rattle.std.proofs.lemmas.Result.{on_ok_weaker}
 use Rattle.term_words.specs.Posted.{keyed}
 use Rattle.term_words.specs.Private.{IsPostedWith}

@@ -1,4 +1,4 @@
-use Rattle.std.proofs.Common.{◌≡◌, ◌∷◌, ◌++◌, [], sym, ap, subst, ◌∙◌, take, take_all}
+use Rattle.std.proofs.Common.{◌∷◌, ◌++◌, [], sym, ap, subst, ◌∙◌, take, take_all}
 use Rattle.std.proofs.lemmas.List.{take_more}
 use Rattle.term_words.specs.Private.{AreSplit}
 use Rattle.term_words.proofs.Splits.{split_push}

@@ -1,4 +1,4 @@
-use Rattle.std.proofs.Common.{◌≡◌, sym}
+use Rattle.std.proofs.Common.{sym}
 use Rattle.std.proofs.lemmas.Result.{on_ok_weaker}
 use Rattle.term_words.proofs.Adding.{row_picked, none_picked}
 use Rattle.term_words.proofs.search.add_at.Goals as goal

@@ -1,4 +1,4 @@
-use Rattle.std.proofs.Common.{◌≡◌, refl, sym, subst, ◌∙◌}
+use Rattle.std.proofs.Common.{sym}
 use Rattle.std.proofs.lemmas.Result.{on_ok_weaker}
 use Rattle.term_words.proofs.Adding.{marked_some, marked_none}
 use Rattle.term_words.proofs.search.add_marked.Goals as goal

@@ -1,4 +1,4 @@
-use Rattle.std.proofs.Common.{◌≡◌, ◌∷◌, ◌++◌, [], ap, ◌∙◌}
+use Rattle.std.proofs.Common.{◌∷◌, ◌++◌, [], ap, ◌∙◌}
 use Rattle.term_words.specs.Private.{sized}
 use Rattle.term_words.proofs.Adding.{row_old, row_one}
 use Rattle.term_words.proofs.search.add_row.Goals as goal

@@ -1,4 +1,4 @@
-use Rattle.std.proofs.Common.{◌≡◌, drop, sym, ap, subst, take, ◌∙◌}
+use Rattle.std.proofs.Common.{drop, sym, ap, subst, take, ◌∙◌}
 use Rattle.as_of_index.specs.Chosen.{StandAtAll}
 use Rattle.as_of_index.specs.Reader.{AnswersRows}
 use Rattle.term_words.proofs.search.find.Goals as goal

@@ -1,6 +1,6 @@
-use Rattle.std.proofs.Common.{◌≡◌, map, refl, sym, subst}
+use Rattle.std.proofs.Common.{map, refl, subst}
 use Rattle.std.proofs.lemmas.Result.{IfOk-weaker}
-use Rattle.term_words.specs.Private.{EachMarked, AreGroups}
+use Rattle.term_words.specs.Private.{EachMarked}
 use Rattle.term_words.proofs.Splits.{each_usable}
 use Rattle.term_words.proofs.Found.{rows_from_kept}
 use Rattle.term_words.proofs.search.found.Goals as goal

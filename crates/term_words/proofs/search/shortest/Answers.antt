@@ -1,4 +1,4 @@
-use Rattle.std.proofs.Common.{◌≡◌, [], get_or, map, refl, sym, subst, take, take_all}
+use Rattle.std.proofs.Common.{[], get_or, map, refl, sym, subst, take_all}
 use Rattle.term_words.specs.declared.grouping.Group.{Group}
 use Rattle.term_words.specs.Private.{AreKept, SaysEnough}
 use Rattle.term_words.proofs.Shortest.{IsSoFar, so_far_none, so_far_either, so_far_next, shortest_some, shortest_all}

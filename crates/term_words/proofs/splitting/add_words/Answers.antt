@@ -1,4 +1,4 @@
-use Rattle.std.proofs.Common.{◌≡◌, sym, ◌∙◌}
+use Rattle.std.proofs.Common.{sym, ◌∙◌}
 use Rattle.std.proofs.lemmas.Str.{chars_from_encodes}
 use Rattle.term_words.proofs.Runs.{words_added}
 use Rattle.term_words.proofs.splitting.add_words.Goals as goal

@@ -1,6 +1,5 @@
-use Rattle.std.proofs.Common.{◌≡◌, sym, ◌∙◌}
+use Rattle.std.proofs.Common.{sym, ◌∙◌}
 use Rattle.std.proofs.lemmas.Result.{IfOk-weaker}
-use Rattle.term_words.specs.Private.{IsClosed}
 use Rattle.term_words.proofs.Runs.{follows_word, follows_between}
 use Rattle.term_words.proofs.splitting.feed.Goals as goal
 

@@ -1,4 +1,4 @@
-use Rattle.std.proofs.Common.{◌≡◌, sym, ap, subst, ◌∙◌, take_all}
+use Rattle.std.proofs.Common.{subst, ◌∙◌, take_all}
 use Rattle.std.specs.List.{filter}
 use Rattle.word_model.specs.Words.{is_no_mark}
 use Rattle.term_words.specs.Private.{Follows}

@@ -1,4 +1,4 @@
-use Rattle.std.proofs.Common.{◌≡◌, length, sym, ap, ◌∙◌, arith}
+use Rattle.std.proofs.Common.{◌≡◌, length, ap, ◌∙◌, arith}
 use Rattle.term_words.specs.Laid.{postings_in}
 use Rattle.term_words.proofs.Chained.{postings-count}
 use Rattle.term_words.proofs.listing.Listing.len.Goals as goal

@@ -1,4 +1,4 @@
-use Rattle.std.proofs.Common.{◌≡◌, subst, sym, ◌∙◌}
+use Rattle.std.proofs.Common.{◌∙◌}
 use Rattle.term_words.specs.Laid.{postings_in}
 use Rattle.term_words.proofs.listing.Listing.parts.Goals as goal
 

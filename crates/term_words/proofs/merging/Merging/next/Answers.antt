@@ -1,4 +1,4 @@
-use Rattle.std.proofs.Common.{◌≡◌, ap, subst}
+use Rattle.std.proofs.Common.{ap, subst}
 use Rattle.std.specs.Prelude.{slice_get}
 use Rattle.term_prefix.specs.Terms.{TextsRise}
 use Rattle.term_prefix.specs.Merged.{MergedTerms}

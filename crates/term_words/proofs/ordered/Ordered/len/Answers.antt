@@ -1,4 +1,4 @@
-use Rattle.std.proofs.Common.{◌≡◌, length, ap, arith}
+use Rattle.std.proofs.Common.{length, ap, arith}
 use Rattle.std.specs.Prelude.{List}
 use Rattle.term_prefix.specs.Terms.{TermAt}
 use Rattle.term_words.proofs.Splits.{seen_length}

@@ -1,4 +1,4 @@
-use Rattle.std.proofs.Common.{◌≡◌, sym, subst, ◌∙◌}
+use Rattle.std.proofs.Common.{sym, subst, ◌∙◌}
 use Rattle.term_words.specs.Laid.{seen_in, AreParted}
 use Rattle.term_words.specs.Private.{all_in}
 use Rattle.term_words.proofs.ordered.Ordered.split.Goals as goal

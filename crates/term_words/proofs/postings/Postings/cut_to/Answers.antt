@@ -1,6 +1,4 @@
-use Rattle.std.proofs.Common.{◌≡◌, length, sym, ap, subst, ◌∙◌, take}
-use Rattle.std.specs.List.{AllByRecursion}
-use Rattle.term_words.specs.declared.postings.Pushed.{Pushed}
+use Rattle.std.proofs.Common.{length, sym, ap, subst, ◌∙◌, take}
 use Rattle.term_words.specs.Laid.{keys_in, all_pushed_in, ArePushed}
 use Rattle.term_words.proofs.Numbering.{take_map, take_numbered}
 use Rattle.term_words.proofs.postings.Postings.cut_to.Goals as goal

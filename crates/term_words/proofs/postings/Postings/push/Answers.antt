@@ -1,4 +1,4 @@
-use Rattle.std.proofs.Common.{◌≡◌, [], sym, ap, ◌∙◌}
+use Rattle.std.proofs.Common.{sym, ap, ◌∙◌}
 use Rattle.std.proofs.lemmas.Result.{on_ok_weaker, on_err_weaker}
 use Rattle.history_model.specs.declared.stamped.StampedRow.{StampedRow}
 use Rattle.term_words.proofs.Numbering.{are_after, seen_after, unseen_after}

@@ -1,7 +1,6 @@
-use Rattle.std.proofs.Common.{◌≡◌, List, sym, subst}
+use Rattle.std.proofs.Common.{List, subst}
 use Rattle.std.specs.List.Sorted.{IsPermutation}
 use Rattle.term_prefix.specs.Terms.{TermAt}
-use Rattle.term_words.specs.Laid.{ArePushed}
 use Rattle.term_words.proofs.postings.Postings.seal.Goals as goal
 
 pub listed-requires : goal.listed-requires

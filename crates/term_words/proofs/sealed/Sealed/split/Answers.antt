@@ -1,4 +1,4 @@
-use Rattle.std.proofs.Common.{◌≡◌, subst}
+use Rattle.std.proofs.Common.{subst}
 use Rattle.term_words.specs.Private.{IsSplit}
 use Rattle.term_words.proofs.Splits.{split_rising}
 use Rattle.term_words.proofs.sealed.Sealed.split.Goals as goal

@@ -1,7 +1,6 @@
-use Rattle.std.proofs.Common.{◌≡◌, ◌<◌, ℕ, List, length, get_or, map, sym, ap, subst, ◌∙◌, arith}
-use Rattle.std.specs.Prelude.{Some, slice_get}
+use Rattle.std.proofs.Common.{ℕ, List, length, ap, ◌∙◌, arith}
 use Rattle.std.proofs.lemmas.List.{length-map}
-use Rattle.term_words.specs.Laid.{key_in, keys_in}
+use Rattle.term_words.specs.Laid.{key_in}
 use Rattle.term_words.proofs.Numbering.{key_there}
 use Rattle.term_words.proofs.splitting.Keys.at.Goals as goal
 
