@@ -20,11 +20,16 @@ use Rattle.term_words.proofs.Groups.{get_first, get_last, get_cases}
 
 -- ---- whether a description is marked
 
-pub says_mark : (marks : List ℕ) (i m : ℕ) → slice_get marks i ≡ Some m → (m ≡ 0 → IsMarked marks i) × (IsMarked marks i → m ≡ 0)
-says_mark marks i m is = (λ e. is ∙ ap Some e, λ e. same_Some m 0 (sym is ∙ e))
+pub says_marked : (marks : List ℕ) (i m : ℕ) → slice_get marks i ≡ Some m → (nat_eq m 1 ≡ true → IsMarked marks i) × (IsMarked marks i → nat_eq m 1 ≡ true)
+says_marked marks i m is = (
+  λ e. is ∙ ap Some (one_from m e),
+  λ e. ap (λ n. nat_eq n 1) (same_Some m 1 (sym is ∙ e)),
+) where
+  one_from : (m : ℕ) → nat_eq m 1 ≡ true → m ≡ 1
+  one_from m e = grind (arith, nat_tests, e)
 
-pub says_none : (marks : List ℕ) (i : ℕ) → slice_get marks i ≡ None → (◌≡◌ {A = ℕ} 1 0 → IsMarked marks i) × (IsMarked marks i → ◌≡◌ {A = ℕ} 1 0)
-says_none marks i none = (λ e. absurd (omega (arith, e)), λ e. absurd (let both = sym none ∙ e in cc))
+pub says_none : (marks : List ℕ) (i : ℕ) → slice_get marks i ≡ None → (false ≡ true → IsMarked marks i) × (IsMarked marks i → false ≡ true)
+says_none marks i none = (λ e. absurd cc, λ e. absurd (let both = sym none ∙ e in cc))
 
 -- ---- one list of marks more
 
@@ -63,57 +68,47 @@ adds_more marks marks' marks'' among rows i row d lt is a b =
 
 -- ---- one mark
 
-get-set : (marks : List ℕ) (rank x : ℕ) → rank < length marks → slice_get (slice_set marks rank x) rank ≡ Some x
-get-set [] rank x lt = absurd (omega arith)
-get-set (m ∷ marks) zero x lt = refl
-get-set (m ∷ marks) (suc rank) x lt = get-set marks rank x (omega arith)
+get-set : (marks : List ℕ) (row : ℕ) → row < length marks → slice_get (slice_set marks row 1) row ≡ Some 1
+get-set [] row lt = absurd (omega arith)
+get-set (m ∷ marks) zero lt = refl
+get-set (m ∷ marks) (suc row) lt = get-set marks row (omega arith)
 
-get-set_cases : (marks : List ℕ) (rank i x y : ℕ) → slice_get (slice_set marks rank x) i ≡ Some y → (slice_get marks i ≡ Some y) ⊎ ((rank ≡ i) × (x ≡ y))
-get-set_cases [] rank i x y h = inl h
-get-set_cases (m ∷ marks) zero zero x y h = inr (refl, same_Some x y h)
-get-set_cases (m ∷ marks) zero (suc i) x y h = inl h
-get-set_cases (m ∷ marks) (suc rank) zero x y h = inl h
-get-set_cases (m ∷ marks) (suc rank) (suc i) x y h = elim (get-set_cases marks rank i x y h) [ inl l ↦ inl l | inr e ↦ inr (ap suc e.0, e.1) ]
+get-set_cases : (marks : List ℕ) (row i : ℕ) → slice_get (slice_set marks row 1) i ≡ Some 1 → (slice_get marks i ≡ Some 1) ⊎ (row ≡ i)
+get-set_cases [] row i h = inl h
+get-set_cases (m ∷ marks) zero zero h = inr refl
+get-set_cases (m ∷ marks) zero (suc i) h = inl h
+get-set_cases (m ∷ marks) (suc row) zero h = inl h
+get-set_cases (m ∷ marks) (suc row) (suc i) h = elim (get-set_cases marks row i h) [ inl l ↦ inl l | inr e ↦ inr (ap suc e) ]
 
-get-set_old : (marks : List ℕ) (rank i x y : ℕ) → slice_get marks i ≡ Some y → (slice_get (slice_set marks rank x) i ≡ Some y) ⊎ (rank ≡ i)
-get-set_old [] rank i x y h = inl h
-get-set_old (m ∷ marks) zero zero x y h = inr refl
-get-set_old (m ∷ marks) zero (suc i) x y h = inl h
-get-set_old (m ∷ marks) (suc rank) zero x y h = inl h
-get-set_old (m ∷ marks) (suc rank) (suc i) x y h = elim (get-set_old marks rank i x y h) [ inl l ↦ inl l | inr e ↦ inr (ap suc e) ]
+get-set_old : (marks : List ℕ) (row i : ℕ) → slice_get marks i ≡ Some 1 → slice_get (slice_set marks row 1) i ≡ Some 1
+get-set_old [] row i h = h
+get-set_old (m ∷ marks) zero zero h = refl
+get-set_old (m ∷ marks) zero (suc i) h = h
+get-set_old (m ∷ marks) (suc row) zero h = h
+get-set_old (m ∷ marks) (suc row) (suc i) h = get-set_old marks row i h
 
-length-set : (marks : List ℕ) (rank x : ℕ) → length (slice_set marks rank x) ≡ length marks
-length-set [] rank x = refl
-length-set (m ∷ marks) zero x = refl
-length-set (m ∷ marks) (suc rank) x = ap suc (length-set marks rank x)
+length-set : (marks : List ℕ) (row : ℕ) → length (slice_set marks row 1) ≡ length marks
+length-set [] row = refl
+length-set (m ∷ marks) zero = refl
+length-set (m ∷ marks) (suc row) = ap suc (length-set marks row)
 
-module _ (marks among : List ℕ) (rank own other least : ℕ) (lt : rank < length marks) (own_is : (own ≡ 0) ↔ IsMarked marks rank) (other_is : (other ≡ 0) ↔ IsMarked among rank) (least_is : (least ≡ 0) ↔ ((own ≡ 0) ⊎ (other ≡ 0))) where
-  set_so : least ≡ 0 → IsMarked (slice_set marks rank least) rank
-  set_so e = get-set marks rank least lt ∙ ap Some e
-
-  pub marked_least : AddsMarks marks among (rank ∷ []) (slice_set marks rank least)
-  marked_least = record {
-    many = length-set marks rank least;
-    marked = λ same i. (
-      λ h. elim (get-set_cases marks rank i least 0 h) [
-        | inl l ↦ inl l
-        | inr e ↦ elim (least_is.0 e.1) [
-          | inl mine ↦ inl (subst (IsMarked marks) e.0 (own_is.0 mine))
-          | inr theirs ↦ inr (subst (IsMarked among) e.0 (other_is.0 theirs), inl e.0)
-        ]
-      ],
-      λ h. elim h [
-        | inl l ↦ elim (get-set_old marks rank i least 0 l) [
-          | inl stays ↦ stays
-          | inr e ↦ subst (IsMarked (slice_set marks rank least)) e (set_so (least_is.1 (inl (own_is.1 (subst (IsMarked marks) (sym e) l)))))
-        ]
-        | inr r ↦ elim r.1 [
-          | inl e ↦ subst (IsMarked (slice_set marks rank least)) e (set_so (least_is.1 (inr (other_is.1 (subst (IsMarked among) (sym e) r.0)))))
-          | inr none ↦ absurd none
-        ]
-      ],
-    );
-  }
+pub marked_one : (marks among : List ℕ) (row : ℕ) → row < length marks → IsMarked among row → AddsMarks marks among (row ∷ []) (slice_set marks row 1)
+marked_one marks among row lt is = record {
+  many = length-set marks row;
+  marked = λ same i. (
+    λ h. elim (get-set_cases marks row i h) [
+      | inl l ↦ inl l
+      | inr e ↦ inr (subst (IsMarked among) e is, inl e)
+    ],
+    λ h. elim h [
+      | inl l ↦ get-set_old marks row i l
+      | inr r ↦ elim r.1 [
+        | inl e ↦ subst (IsMarked (slice_set marks row 1)) e (get-set marks row lt)
+        | inr none ↦ absurd none
+      ]
+    ],
+  );
+}
 
 pub unmarked_one : (marks among : List ℕ) (row : ℕ) → (length marks ≡ length among → IsMarked among row → ⊥) → AddsMarks marks among (row ∷ []) marks
 unmarked_one marks among row none = record {
@@ -138,29 +133,29 @@ adds_entry marks marks' marks'' among rows those i e d lt is a b =
     (ap (λ xs. flat_map (rows_of rows) (take i those) ++ xs) (sym (append-nil (rows_of rows e))) ∙ sym (flat_map-append (rows_of rows) (take i those) (e ∷ [])) ∙ ap (flat_map (rows_of rows)) (ap (λ x. take i those ++ x ∷ []) is ∙ sym (take_more those i d lt)))
     (adds_both marks marks' marks'' among (flat_map (rows_of rows) (take i those)) (rows_of rows e) a b)
 
-abbrev pub no_marks : ℕ → List ℕ
-no_marks n = replicate {A = ℕ} n 1
+abbrev pub zeros : ℕ → List ℕ
+zeros n = replicate {A = ℕ} n 0
 
-abbrev pub only_marks : ℕ → List ℕ
-only_marks n = replicate {A = ℕ} n 0
+abbrev pub ones : ℕ → List ℕ
+ones n = replicate {A = ℕ} n 1
 
-no_mark_there : (n i : ℕ) → slice_get (no_marks n) i ≡ Some 0 → ⊥
-no_mark_there zero i h = absurd cc
-no_mark_there (suc n) zero h = absurd (let e = same_Some 1 0 h in omega (arith, e))
-no_mark_there (suc n) (suc i) h = no_mark_there n i h
+no_marks : (n i : ℕ) → slice_get (zeros n) i ≡ Some 1 → ⊥
+no_marks zero i h = absurd cc
+no_marks (suc n) zero h = absurd (let e = same_Some 0 1 h in omega (arith, e))
+no_marks (suc n) (suc i) h = no_marks n i h
 
-length-none : (n : ℕ) → length (no_marks n) ≡ n
+length-none : (n : ℕ) → length (zeros n) ≡ n
 length-none zero = refl
 length-none (suc n) = ap suc (length-none n)
 
 pub narrowed_by : (text rows : List ℕ) (entries those : List Entry) (ts : List TermAt) (among marks : List ℕ) (prefix : List ℕ) → postings_in text entries rows ≡ ts
-    → ((e : Entry) → Has those e ↔ (Has entries e × (starts_with nat_eq (key_in text e.key) prefix ≡ true))) → AddsMarks (no_marks (length among)) among (flat_map (rows_of rows) those) marks → AreNarrowed ts among prefix marks
+    → ((e : Entry) → Has those e ↔ (Has entries e × (starts_with nat_eq (key_in text e.key) prefix ≡ true))) → AddsMarks (zeros (length among)) among (flat_map (rows_of rows) those) marks → AreNarrowed ts among prefix marks
 narrowed_by text rows entries those ts among marks prefix is which adds = record {
   many = adds.many ∙ length-none (length among);
   marked = λ i.
       let w = adds.marked (length-none (length among)) i in (
         λ h. elim (w.0 h) [
-          | inl l ↦ absurd (no_mark_there (length among) i l)
+          | inl l ↦ absurd (no_marks (length among) i l)
           | inr r ↦ (
               let m = Has-flat_map (rows_of rows) those i r.1 in
               let e = m.0 in
@@ -176,20 +171,20 @@ narrowed_by text rows entries those ts among marks prefix is which adds = record
 
 -- ---- for each wanted key
 
-all_marks : (n i : ℕ) → i < n → slice_get (only_marks n) i ≡ Some 0
+all_marks : (n i : ℕ) → i < n → slice_get (ones n) i ≡ Some 1
 all_marks zero i lt = absurd (omega arith)
 all_marks (suc n) zero lt = refl
 all_marks (suc n) (suc i) lt = all_marks n i (omega arith)
 
-length-all : (n : ℕ) → length (only_marks n) ≡ n
+length-all : (n : ℕ) → length (ones n) ≡ n
 length-all zero = refl
 length-all (suc n) = ap suc (length-all n)
 
-pub marked_first : (ts : List TermAt) (count : ℕ) → AreMarked ts [] count (only_marks count)
+pub marked_first : (ts : List TermAt) (count : ℕ) → AreMarked ts [] count (ones count)
 marked_first ts count = record {
   many = length-all count;
   marked = λ i. (
-    λ h. ((let lt = slice_get_within (only_marks count) i 0 h in let size = length-all count in omega (arith, lt, size)), λ prefix k. absurd k),
+    λ h. ((let lt = slice_get_within (ones count) i 1 h in let size = length-all count in omega (arith, lt, size)), λ prefix k. absurd k),
     λ h. all_marks count i h.0,
   );
 }

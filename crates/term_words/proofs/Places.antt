@@ -49,26 +49,26 @@ from_place test hay i (suc n) j low high e = elim (same_or_above i j low) [
   by true k = inr k
   by false k = k
 
-mark_of : (m : ℕ) → nat_eq m 0 ≡ true → m ≡ 0
-mark_of m e = grind (arith, nat_tests, e)
+one_of : (m : ℕ) → nat_eq m 1 ≡ true → m ≡ 1
+one_of m e = grind (arith, nat_tests, e)
 
-place_of : (bytes : List ℕ) (j : ℕ) → Has (places (is_byte 0) bytes) j → slice_get bytes j ≡ Some 0
+place_of : (bytes : List ℕ) (j : ℕ) → Has (places (is_byte 1) bytes) j → slice_get bytes j ≡ Some 1
 place_of bytes j h =
-    let w = place_from (is_byte 0) bytes 0 (length bytes - 0) j h in
+    let w = place_from (is_byte 1) bytes 0 (length bytes - 0) j h in
     let high = w.1 in
-    there bytes j (omega (arith, high)) ∙ ap Some (mark_of (slice_index bytes j) w.2) where
+    there bytes j (omega (arith, high)) ∙ ap Some (one_of (slice_index bytes j) w.2) where
       there : (xs : List ℕ) (i : ℕ) → i < length xs → slice_get xs i ≡ Some (slice_index xs i)
       there [] i lt = absurd (omega (arith, lt))
       there (x ∷ xs) zero lt = refl
       there (x ∷ xs) (suc i) lt = there xs i (omega (arith, lt))
 
-of_place : (bytes : List ℕ) (j : ℕ) → slice_get bytes j ≡ Some 0 → Has (places (is_byte 0) bytes) j
+of_place : (bytes : List ℕ) (j : ℕ) → slice_get bytes j ≡ Some 1 → Has (places (is_byte 1) bytes) j
 of_place bytes j e =
-    let lt = slice_get_within bytes j 0 e in
-    from_place (is_byte 0) bytes 0 (length bytes - 0) j (omega arith) (omega (arith, lt)) (ap (λ m. nat_eq m 0) (index bytes j e)) where
-      index : (xs : List ℕ) (i : ℕ) → slice_get xs i ≡ Some 0 → slice_index xs i ≡ 0
+    let lt = slice_get_within bytes j 1 e in
+    from_place (is_byte 1) bytes 0 (length bytes - 0) j (omega arith) (omega (arith, lt)) (ap (λ m. nat_eq m 1) (index bytes j e)) where
+      index : (xs : List ℕ) (i : ℕ) → slice_get xs i ≡ Some 1 → slice_index xs i ≡ 1
       index [] i e = absurd cc
-      index (x ∷ xs) zero e = same_Some x 0 e
+      index (x ∷ xs) zero e = same_Some x 1 e
       index (x ∷ xs) (suc i) e = index xs i e
 
 -- ---- the rows
@@ -84,7 +84,7 @@ picked_from rows numbers i h =
 picked_of : (rows numbers : List ℕ) (j i : ℕ) → Has numbers j → slice_get rows j ≡ Some i → Has (picked rows numbers) i
 picked_of rows numbers j i h e = Has-flat_map_from (λ k. option_to_list (slice_get rows k)) numbers j i h (subst (λ o. Has (option_to_list o) i) (sym e) (inl refl))
 
-mark_there : (marks : List ℕ) (first count j : ℕ) → slice_get (take count (drop first marks)) j ≡ Some 0 → j < count → IsMarked marks (first + j)
+mark_there : (marks : List ℕ) (first count j : ℕ) → slice_get (take count (drop first marks)) j ≡ Some 1 → j < count → IsMarked marks (first + j)
 mark_there marks first count j e lt = sym (get-drop marks first j) ∙ sym (get-take (drop first marks) count j lt) ∙ e
 
 -- a row of a group that is hit is marked by its rank
@@ -92,7 +92,7 @@ pub hit_marked : (g : Group) (marks : List ℕ) (i : ℕ) → Has (hits g marks)
 hit_marked g marks i h =
     let count = length g.rows.now in
     let part = take count (drop g.first marks) in
-    let w = picked_from g.rows.now (places (is_byte 0) part) i h in
+    let w = picked_from g.rows.now (places (is_byte 1) part) i h in
     (g.first + w.0, (w.0, refl, w.2), mark_there marks g.first count w.0 (place_of part w.0 w.1) (slice_get_within g.rows.now w.0 i w.2))
 
 pub marked_hit : (g : Group) (marks : List ℕ) (rank i : ℕ) → IsInGroup g rank i → IsMarked marks rank → Has (hits g marks) i
@@ -100,4 +100,4 @@ marked_hit g marks rank i w mark =
     let count = length g.rows.now in
     let part = take count (drop g.first marks) in
     let lt = slice_get_within g.rows.now w.0 i w.2 in
-    picked_of g.rows.now (places (is_byte 0) part) w.0 i (of_place part w.0 (get-take (drop g.first marks) count w.0 lt ∙ get-drop marks g.first w.0 ∙ ap (slice_get marks) w.1 ∙ mark)) w.2
+    picked_of g.rows.now (places (is_byte 1) part) w.0 i (of_place part w.0 (get-take (drop g.first marks) count w.0 lt ∙ get-drop marks g.first w.0 ∙ ap (slice_get marks) w.1 ∙ mark)) w.2

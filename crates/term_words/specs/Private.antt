@@ -207,7 +207,7 @@ IsBegun ts prefix i =
     (t : TermAt) × Has ts t × (t.row ≡ i) × (starts_with nat_eq t.folded prefix ≡ true)
 
 abbrev pub IsMarked : List ℕ → ℕ → Type 0
-IsMarked marks i = slice_get marks i ≡ Some 0
+IsMarked marks i = slice_get marks i ≡ Some 1
 
 -- those of the descriptions that are marked among others were marked too
 pub record AddsMarks (marks among ranks marks' : List ℕ) : Type 0 where
@@ -303,7 +303,7 @@ picked rows numbers = flat_map (λ j. option_to_list (slice_get rows j)) numbers
 -- the rows of the group that are marked
 abbrev pub hits : Group → List ℕ → List ℕ
 hits g marks = picked g.rows.now
-    (places_that (is_byte 0) (take (length g.rows.now) (drop g.first marks)))
+    (places_that (is_byte 1) (take (length g.rows.now) (drop g.first marks)))
 
 abbrev pub IsOfGroup : List (List StampedRow) → AsOf → Group → List ℕ → Chosen → Type 0
 IsOfGroup lists as_of g marks k = IsOfRows lists as_of g.segment g.len (hits g marks) k

@@ -1,6 +1,6 @@
 //! Marks the descriptions that have words that begin so, by their ranks.
 
-ghost use Rattle.std.specs.Prelude.{◌≡◌, ◌↔◌, ◌⊎◌, ◌∷◌, [], length, map, IfOk, Some};
+ghost use Rattle.std.specs.Prelude.{◌≡◌, ◌↔◌, ◌∷◌, [], length, map, IfOk, IsTrue, Some};
 ghost use Rattle.std.specs.Prelude.{slice_get, slice_set, ◌<◌};
 ghost use Rattle.std.specs.List.{AllByRecursion};
 ghost use Rattle.std.specs.Option.{option_copied};
@@ -15,49 +15,40 @@ use crate::sealed::{begun, rows_of};
 use crate::splitting::Keys;
 use std::alloc::{AllocError, Global};
 
-/// What stands for a description that is marked, and for another one. The lesser number is that of
-/// a mark, so that the lesser of two numbers is marked if one of them is.
-pub(crate) const MARK: u8 = 0;
+/// What stands for a description that is marked; 0 stands for another one.
+pub(crate) const MARK: u8 = 1;
 
-const NO_MARK: u8 = 1;
-
-/// What stands for the description with this rank.
-fn mark_of(marks: &[u8], rank: usize) -> u8
-    ensures { (result ≡ 0) ↔ (slice_get marks.now rank ≡ Some 0) }
+/// Whether the description with this rank is marked.
+fn is_marked(marks: &[u8], rank: u32) -> bool
+    ensures { IsTrue result ↔ (slice_get marks.now rank ≡ Some 1) }
 {
+    let rank = rank as usize;
     if marks.len() <= rank {
-        return NO_MARK;
+        return false;
     }
-    marks[rank]
+    marks[rank] == MARK
 }
 
-/// The lesser of two numbers.
-fn lesser(a: u8, b: u8) -> u8
-    ensures { (result ≡ 0) ↔ ((a ≡ 0) ⊎ (b ≡ 0)) }
-{
-    if a < b { a } else { b }
-}
-
-/// Sets what stands for the description with this rank.
-fn set_mark(marks: &mut Vec<u8>, rank: usize, mark: u8)
+/// Marks the description with this rank.
+fn set_mark(marks: &mut Vec<u8>, rank: usize)
     requires { rank < length marks.old.items }
-    ensures { marks.new.items ≡ slice_set marks.old.items rank mark }
+    ensures { marks.new.items ≡ slice_set marks.old.items rank 1 }
 {
-    marks[rank] = mark;
+    marks[rank] = MARK;
 }
 
-/// Marks the description with this rank, if it is marked among others. There is no branch that
-/// depends on the marks.
+/// Marks the description with this rank, if it is marked among others.
 fn mark_rank(marks: &mut Vec<u8>, among: &[u8], rank: u32)
     ensures { AddsMarks marks.old.items among.now (rank ∷ []) marks.new.items }
 {
+    if !is_marked(among, rank) {
+        return;
+    }
     let rank = rank as usize;
     if marks.len() <= rank {
         return;
     }
-    let own = mark_of(marks.as_slice(), rank);
-    let other = mark_of(among, rank);
-    set_mark(marks, rank, lesser(own, other));
+    set_mark(marks, rank);
 }
 
 /// Marks those of the descriptions that are marked among others.
@@ -80,7 +71,7 @@ fn narrowed(
     ensures { IfOk result (λ marks. AreNarrowed (all_in words.entry) among.now
         (key_of prefix.entry) marks.items) }
 {
-    let mut marks = vec![in alloc; NO_MARK; among.len()]?;
+    let mut marks = vec![in alloc; 0u8; among.len()]?;
     let those = begun(words.text, words.entries, prefix);
     for e in those {
         mark_ranks(&mut marks, among, rows_of(words.rows, e));

@@ -1,13 +1,13 @@
 use Rattle.std.proofs.Common.{◌≡◌, [], length, sym, subst, take_all}
 use Rattle.term_words.specs.Private.{all_in, AreMarked}
-use Rattle.term_words.proofs.Marks.{only_marks, marked_first, marked_next}
+use Rattle.term_words.proofs.Marks.{ones, marked_first, marked_next}
 use Rattle.term_words.proofs.marking.marked.Goals as goal
 
 pub loop-number-init : goal.loop-number-init
 loop-number-init c =
     let split = c.args.split.now in
     let count = length split.sizes.rows.now in
-    let all : c.in_ok-marks.marks.items ≡ only_marks count = c.in_ok-marks.ensures.items_if_clones_equal (λ y h. h) in
+    let all : c.in_ok-marks.marks.items ≡ ones count = c.in_ok-marks.ensures.items_if_clones_equal (λ y h. h) in
     subst (λ ms. AreMarked (all_in split.words) [] count ms) (sym all) (marked_first (all_in split.words) count)
 
 pub loop-number-preserved : goal.loop-number-preserved

@@ -17,6 +17,6 @@ loop-number-preserved c = λ lists listed_so.
 pub returns : goal.returns
 returns c = λ lists listed_so.
     let a = c.args in
-    let all = c.into_iter-number-iterator.ensures.into_iter_gives ∙ c.memchr_iter-number-items.ensures.value ∙ ap (places (is_byte 0)) (c.marks_from-own.ensures) in
+    let all = c.into_iter-number-iterator.ensures.into_iter_gives ∙ c.memchr_iter-number-items.ensures.value ∙ ap (places (is_byte 1)) (c.marks_from-own.ensures) in
     let t = YieldsList-end (YieldsList-from_first (λ (x : ℕ). x) (λ (rest : List ℕ). rest) _ all) c.loop-number.yielded _ c.loop-number.yielded_by _ _ c.in-None.is c.next.ensures.steps in
     subst (λ js. AddsRows lists a.as_of.now a.group.now.segment a.group.now.len (picked a.group.now.rows.now js) a.kept.now.items c.loop-number.kept.items) (sym (map_same c.loop-number.yielded) ∙ t.0) (c.loop-number.invariant lists listed_so)
