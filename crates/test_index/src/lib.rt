@@ -17,3 +17,5 @@ mod numbers;
 mod rows;
 #[cfg(test)]
 mod versions;
+#[cfg(test)]
+mod words;

@@ -1,0 +1,16 @@
+pub mod Chained
+pub mod Runs
+pub mod Numbering
+pub mod Ranking
+pub mod Found
+pub mod Adding
+pub mod Shortest
+pub mod Posting
+pub mod Stepping
+pub mod Begun
+pub mod Entries
+pub mod Marks
+pub mod Groups
+pub mod Splits
+pub mod Once
+pub mod Places

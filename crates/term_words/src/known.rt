@@ -1,0 +1,154 @@
+//! Different keys, each with a number, and a table by which the number of a key is found.
+
+ghost use Rattle.std.specs.Prelude.{◌≡◌, ◌<◌, length, IsTrue, IfSome, Some};
+ghost use Rattle.std.specs.Prelude.{slice_get};
+ghost use Rattle.term_words.specs.Laid.{keys_in, EachEndsWithin};
+ghost use Rattle.term_words.specs.Private.Chains.{key_of};
+ghost use Rattle.term_words.specs.Private.{IsNumbered, KeepsKeys};
+
+use crate::keys::{Key, KeyAt, is_same, key_in, lay};
+use std::alloc::{AllocError, Global};
+
+/// In a slot that has no number.
+const FREE: u32 = u32::MAX;
+
+/// How many slots a key may be in.
+const TRIES: usize = 16;
+
+/// A hash of a number and one that was computed before.
+fn mixed(hash: u64, number: u64) -> u64 {
+    (hash ^ number)
+        .wrapping_mul(0x9E37_79B9_7F4A_7C15)
+        .rotate_left(29)
+}
+
+fn hash_of(key: Key<'_>) -> u64 {
+    match key {
+        Key::Measure { length, type_id } => mixed(mixed(1, u64::from(length)), type_id),
+        Key::Word(word) => {
+            let mut hash = 2;
+            for byte in word {
+                hash = mixed(hash, u64::from(*byte));
+            }
+            mixed(hash, 0)
+        }
+    }
+}
+
+/// The slot of a table that is tried at this step.
+fn slot_of(slots: &[u32], hash: u64, step: usize) -> usize
+    requires { 0 < length slots.now }
+    ensures { result < length slots.now }
+{
+    let place = (hash >> 16) as usize;
+    place.wrapping_add(step) % slots.len()
+}
+
+/// Whether the key has this number.
+fn has_number(text: &[u8], keys: &[KeyAt], number: u32, key: Key<'_>) -> bool
+    ensures { IsTrue result → slice_get (keys_in text.now keys.now) number ≡ Some (key_of key.entry) }
+{
+    match keys.get(number as usize) {
+        Some(known) => is_same(key_in(text, known), key),
+        None => false,
+    }
+}
+
+/// The number of the key, if the table has it.
+fn find(text: &[u8], keys: &[KeyAt], slots: &[u32], key: Key<'_>) -> Option<u32>
+    ensures { IfSome result (λ number. slice_get (keys_in text.now keys.now) number
+        ≡ Some (key_of key.entry)) }
+{
+    if slots.is_empty() {
+        return None;
+    }
+    let hash = hash_of(key);
+    for step in 0..TRIES {
+        let number = slots[slot_of(slots, hash, step)];
+        if has_number(text, keys, number, key) {
+            return Some(number);
+        }
+        if number == FREE {
+            return None;
+        }
+    }
+    None
+}
+
+/// Notes the number of a key in a slot that is free, or else in the last one that is tried. A key
+/// whose number isn't noted gets another number when it comes again.
+fn note(slots: &mut [u32], hash: u64, number: u32) {
+    if slots.is_empty() {
+        return;
+    }
+    for step in 0..TRIES {
+        let slot = slot_of(slots, hash, step);
+        if slots[slot] == FREE {
+            slots[slot] = number;
+            return;
+        }
+    }
+    let last = slot_of(slots, hash, TRIES);
+    slots[last] = number;
+}
+
+/// The slots of a table that has room for twice as many keys.
+fn roomier(alloc: Global, text: &[u8], keys: &[KeyAt]) -> Result<Vec<u32>, AllocError> {
+    let len = keys.len().saturating_mul(4).max(1024);
+    let mut slots = vec![in alloc; FREE; len]?;
+    for (number, key) in keys.iter().enumerate() {
+        let Ok(number) = u32::try_from(number) else {
+            return Ok(slots);
+        };
+        let hash = hash_of(key_in(text, key));
+        note(slots.as_mut_slice(), hash, number);
+    }
+    Ok(slots)
+}
+
+/// Adds a key with the next number. An `Err` changes no key.
+#[tactic(auto, using(crate::proofs::Numbering::same_keys, crate::proofs::Numbering::keys_kept, crate::proofs::Numbering::key_numbered))]
+fn add(
+    alloc: Global,
+    text: &mut Vec<u8>,
+    keys: &mut Vec<KeyAt>,
+    slots: &mut Vec<u32>,
+    key: Key<'_>,
+) -> Result<u32, AllocError>
+    ensures number { EachEndsWithin (length text.old.items) keys.old.items
+        → IsNumbered result (keys_in text.new.items keys.new.items) (key_of key.entry) }
+    ensures kept { KeepsKeys text.old.items keys.old.items text.new.items keys.new.items }
+{
+    let Ok(number) = u32::try_from(keys.len()) else {
+        return Err(AllocError);
+    };
+    if slots.len() / 2 <= keys.len() {
+        *slots = roomier(alloc, text, keys)?;
+    }
+    keys.reserve(1)?;
+    let hash = hash_of(key);
+    let laid = lay(text, key)?;
+    let Ok(()) = keys.push(laid) else {
+        unreachable!()
+    };
+    note(slots.as_mut_slice(), hash, number);
+    Ok(number)
+}
+
+/// The number of a key, which is added if the table doesn't have it. An `Err` changes no key.
+pub(crate) fn number_of(
+    alloc: Global,
+    text: &mut Vec<u8>,
+    keys: &mut Vec<KeyAt>,
+    slots: &mut Vec<u32>,
+    key: Key<'_>,
+) -> Result<u32, AllocError>
+    ensures number { EachEndsWithin (length text.old.items) keys.old.items
+        → IsNumbered result (keys_in text.new.items keys.new.items) (key_of key.entry) }
+    ensures kept { KeepsKeys text.old.items keys.old.items text.new.items keys.new.items }
+{
+    match find(text, keys, slots, key) {
+        Some(number) => Ok(number),
+        None => add(alloc, text, keys, slots, key),
+    }
+}
