@@ -1,5 +1,6 @@
 pub mod Chained
 pub mod Runs
+pub mod InAscii
 pub mod Numbering
 pub mod Ranking
 pub mod Found
@@ -14,3 +15,4 @@ pub mod Groups
 pub mod Splits
 pub mod Once
 pub mod Places
+pub mod Placing

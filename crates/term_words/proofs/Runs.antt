@@ -186,7 +186,7 @@ mark_left c e = ap (λ b. cond (not b) (c ∷ []) []) e
 pub no_mark : (c : ℕ) → is_combining_mark c ≡ false → filter is_no_mark (c ∷ []) ≡ c ∷ []
 no_mark c e = ap (λ b. cond (not b) (c ∷ []) []) e
 
-filter_both : (p : ℕ → Bool) (xs ys : List ℕ) → filter p (xs ++ ys) ≡ filter p xs ++ filter p ys
+pub filter_both : {X : Type 0} (p : X → Bool) (xs ys : List X) → filter p (xs ++ ys) ≡ filter p xs ++ filter p ys
 filter_both p [] ys = refl
 filter_both p (x ∷ xs) ys =
     elim (p x) as (λ b. cond b (x ∷ filter p (xs ++ ys)) (filter p (xs ++ ys)) ≡ cond b (x ∷ filter p xs) (filter p xs) ++ filter p ys) [
@@ -210,15 +210,20 @@ follows_next text text' text'' keys keys' keys'' start start' start'' cs c first
 
 -- ---- all words of a text
 
-pub words_added : (text text' : List ℕ) (keys keys' keys'' : List KeyAt) (start last next : ℕ) (term cs : List ℕ) → EachEndsWithin (length text) keys → start ≡ length text → cs ≡ default_case_fold (chars term)
-    → Follows text keys start (flat_map unmarked cs) text' keys' last → IsClosed text' keys' last keys'' next → (keys_in text' keys'' ≡ keys_in text keys ++ map word_key (words term)) × EachEndsWithin (length text') keys''
-unfolding plain words
-words_added text text' keys keys' keys'' start last next term cs h start_is cs_is follows closed =
-    let p = flat_map unmarked cs in
+-- what is read of a term is what its folding has
+pub plain_is : (term folded : List ℕ) → folded ≡ default_case_fold (chars term) → flat_map unmarked folded ≡ plain term
+unfolding plain
+plain_is term folded is = ap (flat_map unmarked) is
+
+pub words_added : (text text' : List ℕ) (keys keys' keys'' : List KeyAt) (start last next : ℕ) (term : List ℕ) → EachEndsWithin (length text) keys → start ≡ length text → Follows text keys start (plain term) text' keys' last → IsClosed text' keys' last keys'' next
+    → (keys_in text' keys'' ≡ keys_in text keys ++ map word_key (words term)) × EachEndsWithin (length text') keys''
+unfolding words
+words_added text text' keys keys' keys'' start last next term h start_is follows closed =
+    let p = plain term in
     let whole = keys_in text keys ++ run_keys (runs (p ++ [])) in
     let begun : Leads text keys start (p ++ []) whole = subst (λ n. Leads text keys n (p ++ []) whole) (sym start_is) (leads_first text keys (p ++ []) h) in
     let e = leads_last text' keys' last whole keys'' next (follows [] whole begun) closed in
-    (e.0 ∙ ap (λ xs. keys_in text keys ++ run_keys (runs xs)) (append-nil p ∙ ap (flat_map unmarked) cs_is), e.1)
+    (e.0 ∙ ap (λ xs. keys_in text keys ++ run_keys (runs xs)) (append-nil p), e.1)
 
 pub map_same : (cs : List ℕ) → map (λ (c : ℕ). c) cs ≡ cs
 map_same [] = refl

@@ -1,9 +1,9 @@
 -- Definitions for private functions and proofs. No public clause cites them.
 pub mod Chains
 use Rattle.std.specs.Prelude.{◌≡◌, ◌≤◌, ◌<◌, ◌⊎◌, ◌↔◌, ℕ, ◌+◌, ◌-◌, Bool, true, false, List, [], ◌∷◌}
-use Rattle.std.specs.Prelude.{◌++◌, length, map, flat_map, take, drop, get_or, slice_get, nat_eq}
+use Rattle.std.specs.Prelude.{◌++◌, length, map, flat_map, take, drop, get_or, slice_get, nat_eq, nat_lt, not}
 use Rattle.std.specs.Prelude.{Option, Some, None, Result, IfOk, OnOk, encode_utf8_all}
-use Rattle.std.specs.List.{AllByRecursion, starts_with}
+use Rattle.std.specs.List.{AllByRecursion, starts_with, filter}
 use Rattle.std.specs.Option.{option_to_list}
 use Rattle.std.specs.Ordering.{nat_cmp, is_lt}
 use Rattle.std.specs.Cmp.Lexicographic.{slice_cmp}
@@ -37,6 +37,7 @@ use Rattle.term_words.specs.Posted.{keyed, measure_key, word_key}
 use Rattle.term_words.specs.Laid.{key_in, keys_in, EndsWithin, EachEndsWithin}
 use Rattle.term_words.specs.Private.Chains.{key_of, AreEntries}
 use Rattle.term_words.specs.Laid.{all_pushed_in, ArePushed, rows_of, postings_in, seen_in, AreParted}
+use Rattle.term_words.specs.Laid.{IsSizeKey, IsWordKey, row_of_rank}
 use Rattle.memchr.specs.Find.{is_byte, places as places_that}
 
 -- the bytes of a key's word were added to a text, where they are at this place
@@ -154,6 +155,48 @@ ranked_in keys p = keyed p.row (get_or keys p.rank [])
 
 abbrev pub all_ranked_in : List (List ℕ) → List Ranked → List TermAt
 all_ranked_in keys all = map (ranked_in keys) all
+
+-- the number of the posting's key is among the first `end` ones
+abbrev pub is_first : ℕ → Ranked → Bool
+is_first end p = nat_lt p.rank end
+
+abbrev pub is_other : ℕ → Ranked → Bool
+is_other end p = not (is_first end p)
+
+-- a posting that has the rank of its description, with the number of its row
+abbrev pub with_row : List TermAt → Ranked → Ranked
+with_row sizes p = record { rank = p.rank; row = row_of_rank sizes p.row }
+
+abbrev pub all_with_rows : List TermAt → List Ranked → List Ranked
+all_with_rows sizes ps = map (with_row sizes) ps
+
+-- each has the rank of a description
+abbrev pub AreRanksOf : List TermAt → List Ranked → Type 0
+AreRanksOf sizes ps = AllByRecursion (λ (p : Ranked). p.row < length sizes) ps
+
+-- those of the postings whose keys aren't among the first ones were added, with the ranks of their
+-- descriptions in the places of the numbers of their rows
+pub record AddsPlaced (sizes : List TermAt) (end : ℕ) (postings all all' : List Ranked)
+    : Type 0 where
+  pub same : all_with_rows sizes all' ≡ all_with_rows sizes all ++ filter (is_other end) postings
+  pub within : AreRanksOf sizes all → AreRanksOf sizes all'
+
+pub record ArePlaced (sizes : List TermAt) (end : ℕ) (postings all : List Ranked) : Type 0 where
+  pub same : all_with_rows sizes all ≡ filter (is_other end) postings
+  pub within : AreRanksOf sizes all
+
+-- the key is by length and type, or else by a word
+abbrev pub IsOfKind : Bool → List ℕ → Type 0
+IsOfKind true key = IsSizeKey key
+IsOfKind false key = IsWordKey key
+
+abbrev pub AreOfKind : Bool → List TermAt → Type 0
+AreOfKind are_sizes ts = AllByRecursion (λ (t : TermAt). IsOfKind are_sizes t.folded) ts
+
+-- postings by words, each with the rank of a description
+abbrev pub AreWordsOf : List TermAt → List TermAt → Type 0
+AreWordsOf sizes words =
+    AllByRecursion (λ (t : TermAt). IsWordKey t.folded × (t.row < length sizes)) words
 
 -- ---- postings in order
 

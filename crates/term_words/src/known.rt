@@ -54,15 +54,105 @@ fn has_number(text: &[u8], keys: &[KeyAt], number: u32, key: Key<'_>) -> bool
     }
 }
 
+/// Where a key may be found. The hints of several keys are made step by step, each step for all of
+/// them, so that the memory that they read is fetched at the same time.
+#[derive(Clone, Copy)]
+pub(crate) struct Hint {
+    hash: u64,
+    /// The number in the first slot that is tried.
+    number: u32,
+    /// Where the bytes of the word with this number begin, and the first of these.
+    start: usize,
+    byte: u8,
+}
+
+impl Hint {
+    /// A hint that has the hash of a key alone.
+    pub(crate) fn of(key: Key<'_>) -> Hint {
+        Hint {
+            hash: hash_of(key),
+            number: FREE,
+            start: 0,
+            byte: 0,
+        }
+    }
+}
+
+/// The number in the first slot that is tried for this hash.
+fn first_number(slots: &[u32], hash: u64) -> u32 {
+    if slots.is_empty() {
+        return FREE;
+    }
+    slots[slot_of(slots, hash, 0)]
+}
+
+fn start_in(key: &KeyAt) -> usize {
+    match key {
+        KeyAt::Measure { .. } => 0,
+        KeyAt::Word { start, .. } => *start,
+    }
+}
+
+/// Where the bytes of the word with this number begin.
+fn start_of(keys: &[KeyAt], number: u32) -> usize {
+    match keys.get(number as usize) {
+        Some(key) => start_in(key),
+        None => 0,
+    }
+}
+
+fn byte_at(text: &[u8], place: usize) -> u8 {
+    match text.get(place) {
+        Some(byte) => *byte,
+        None => 0,
+    }
+}
+
+/// Completes the hints.
+pub(crate) fn look_up(hints: &mut Vec<Hint>, text: &[u8], keys: &[KeyAt], slots: &[u32]) {
+    note_numbers(hints, slots);
+    note_starts(hints, keys);
+    note_bytes(hints, text);
+}
+
+fn note_numbers(hints: &mut Vec<Hint>, slots: &[u32]) {
+    for hint in hints.iter_mut() {
+        hint.number = first_number(slots, hint.hash);
+    }
+}
+
+fn note_starts(hints: &mut Vec<Hint>, keys: &[KeyAt]) {
+    for hint in hints.iter_mut() {
+        hint.start = start_of(keys, hint.number);
+    }
+}
+
+fn note_bytes(hints: &mut Vec<Hint>, text: &[u8]) {
+    for hint in hints.iter_mut() {
+        hint.byte = byte_at(text, hint.start);
+    }
+}
+
+/// Whether the key may have the number of the hint: its first byte is that of the word there.
+fn may_be(key: Key<'_>, hint: &Hint) -> bool {
+    match key {
+        Key::Measure { .. } => true,
+        Key::Word(word) => byte_at(word, 0) == hint.byte,
+    }
+}
+
 /// The number of the key, if the table has it.
-fn find(text: &[u8], keys: &[KeyAt], slots: &[u32], key: Key<'_>) -> Option<u32>
+fn find(text: &[u8], keys: &[KeyAt], slots: &[u32], key: Key<'_>, hint: Hint) -> Option<u32>
     ensures { IfSome result (λ number. slice_get (keys_in text.now keys.now) number
         ≡ Some (key_of key.entry)) }
 {
+    if may_be(key, &hint) && has_number(text, keys, hint.number, key) {
+        return Some(hint.number);
+    }
     if slots.is_empty() {
         return None;
     }
-    let hash = hash_of(key);
+    let hash = hint.hash;
     for step in 0..TRIES {
         let number = slots[slot_of(slots, hash, step)];
         if has_number(text, keys, number, key) {
@@ -114,6 +204,7 @@ fn add(
     keys: &mut Vec<KeyAt>,
     slots: &mut Vec<u32>,
     key: Key<'_>,
+    hint: Hint,
 ) -> Result<u32, AllocError>
     ensures number { EachEndsWithin (length text.old.items) keys.old.items
         → IsNumbered result (keys_in text.new.items keys.new.items) (key_of key.entry) }
@@ -126,7 +217,7 @@ fn add(
         *slots = roomier(alloc, text, keys)?;
     }
     keys.reserve(1)?;
-    let hash = hash_of(key);
+    let hash = hint.hash;
     let laid = lay(text, key)?;
     let Ok(()) = keys.push(laid) else {
         unreachable!()
@@ -142,13 +233,14 @@ pub(crate) fn number_of(
     keys: &mut Vec<KeyAt>,
     slots: &mut Vec<u32>,
     key: Key<'_>,
+    hint: Hint,
 ) -> Result<u32, AllocError>
     ensures number { EachEndsWithin (length text.old.items) keys.old.items
         → IsNumbered result (keys_in text.new.items keys.new.items) (key_of key.entry) }
     ensures kept { KeepsKeys text.old.items keys.old.items text.new.items keys.new.items }
 {
-    match find(text, keys, slots, key) {
+    match find(text, keys, slots, key, hint) {
         Some(number) => Ok(number),
-        None => add(alloc, text, keys, slots, key),
+        None => add(alloc, text, keys, slots, key, hint),
     }
 }

@@ -1,7 +1,7 @@
 //! Marks the descriptions that have words that begin so, by their ranks.
 
 ghost use Rattle.std.specs.Prelude.{◌≡◌, ◌↔◌, ◌∷◌, [], length, map, IfOk, IsTrue, Some};
-ghost use Rattle.std.specs.Prelude.{slice_get, slice_set, ◌<◌};
+ghost use Rattle.std.specs.Prelude.{slice_get, slice_set, ◌<◌, replicate};
 ghost use Rattle.std.specs.List.{AllByRecursion};
 ghost use Rattle.std.specs.Option.{option_copied};
 ghost use Rattle.term_words.specs.Private.Chains.{key_of};
@@ -14,6 +14,7 @@ use crate::ordered::Split;
 use crate::sealed::{begun, rows_of};
 use crate::splitting::Keys;
 use std::alloc::{AllocError, Global};
+use std::mem::swap;
 
 /// What stands for a description that is marked; 0 stands for another one.
 pub(crate) const MARK: u8 = 1;
@@ -60,23 +61,25 @@ fn mark_ranks(marks: &mut Vec<u8>, among: &[u8], ranks: &[u32])
     }
 }
 
-/// Marks those descriptions, among the marked ones, that have a key beginning with this one.
-fn narrowed(
-    alloc: Global,
-    words: Parts<'_>,
-    among: &[u8],
-    prefix: Key<'_>,
-) -> Result<Vec<u8>, AllocError>
-    requires { PartsRise words }
-    ensures { IfOk result (λ marks. AreNarrowed (all_in words.entry) among.now
-        (key_of prefix.entry) marks.items) }
+/// Removes all marks.
+fn clear(marks: &mut Vec<u8>)
+    ensures { marks.new.items ≡ replicate (length marks.old.items) 0 }
 {
-    let mut marks = vec![in alloc; 0u8; among.len()]?;
+    marks.as_mut_slice().fill(0u8);
+}
+
+/// Marks those descriptions, among the marked ones, that have a key beginning with this one, and no
+/// others. Allocates nothing.
+fn narrow(words: Parts<'_>, among: &[u8], prefix: Key<'_>, marks: &mut Vec<u8>)
+    requires rising { PartsRise words }
+    requires many { length marks.old.items ≡ length among.now }
+    ensures { AreNarrowed (all_in words.entry) among.now (key_of prefix.entry) marks.new.items }
+{
+    clear(marks);
     let those = begun(words.text, words.entries, prefix);
     for e in those {
-        mark_ranks(&mut marks, among, rows_of(words.rows, e));
+        mark_ranks(marks, among, rows_of(words.rows, e));
     }
-    Ok(marks)
 }
 
 /// Marks those of a list's descriptions that have for each wanted key one beginning with it.
@@ -86,8 +89,10 @@ fn marked(alloc: Global, split: &Split<'_>, wanted: &Keys) -> Result<Vec<u8>, Al
         (length split.now.sizes.rows.now) marks.items) }
 {
     let mut marks = vec![in alloc; MARK; split.sizes.rows.len()]?;
+    let mut next = vec![in alloc; MARK; split.sizes.rows.len()]?;
     for number in 0..wanted.len() {
-        marks = narrowed(alloc, split.words, marks.as_slice(), wanted.at(number))?;
+        narrow(split.words, marks.as_slice(), wanted.at(number), &mut next);
+        swap(&mut marks, &mut next);
     }
     Ok(marks)
 }

@@ -61,7 +61,7 @@ pub(crate) fn noted_rank(ranks: &[u32], number: u32) -> u32 {
 }
 
 /// Whether the description with this rank is that of the row.
-fn has_rank(sizes: &Listing, rank: u32, row: u32) -> bool
+pub(crate) fn has_rank(sizes: &Listing, rank: u32, row: u32) -> bool
     ensures { IsTrue result → option_map (λ t. t.row) (slice_get sizes.now rank) ≡ Some row }
 {
     match sizes.row(rank as usize) {

@@ -12,10 +12,10 @@ ghost use Rattle.term_words.specs.Private.Chains.{key_of};
 ghost use Rattle.term_words.specs.Private.{PostsSome, IsPostedWith};
 
 use crate::keys::{Key, KeyAt};
-use crate::known::number_of;
+use crate::known::{Hint, look_up, number_of};
 use crate::sealed::Sealed;
 use crate::sealing::listed;
-use crate::splitting::{Keys, words_of};
+use crate::splitting::Keys;
 use history_model::StampedRow;
 use rf2_values::Body;
 use std::alloc::{AllocError, Global};
@@ -35,6 +35,9 @@ pub struct Postings {
     keys: Vec<KeyAt>,
     slots: Vec<u32>,
     pushed: Vec<Pushed>,
+    /// The words of the term that is read, and where these may be found.
+    read: Keys,
+    hints: Vec<Hint>,
     alloc: Global,
 }
 
@@ -58,6 +61,7 @@ fn post(
     slots: &mut Vec<u32>,
     pushed: &mut Vec<Pushed>,
     key: Key<'_>,
+    hint: Hint,
     row: u32,
 ) -> Result<(), AllocError>
     ensures ok { ArePushed text.old.items keys.old.items pushed.old.items
@@ -67,9 +71,26 @@ fn post(
         → PostsSome text.old.items keys.old.items pushed.old.items
         text.new.items keys.new.items pushed.new.items }
 {
-    let number = number_of(alloc, text, keys, slots, key)?;
+    let number = number_of(alloc, text, keys, slots, key, hint)?;
     pushed.push(Pushed { key: number, row })?;
     Ok(())
+}
+
+/// Notes the hashes of words.
+fn note_hashes(hints: &mut Vec<Hint>, words: &Keys) -> Result<(), AllocError> {
+    hints.clear();
+    for word in 0..words.len() {
+        hints.push(Hint::of(words.at(word)))?;
+    }
+    Ok(())
+}
+
+/// The hint with this number, or one that has the hash alone.
+fn hint_at(hints: &[Hint], number: usize, key: Key<'_>) -> Hint {
+    match hints.get(number) {
+        Some(hint) => *hint,
+        None => Hint::of(key),
+    }
 }
 
 /// Adds the postings of words. An `Err` may leave some of them.
@@ -80,6 +101,7 @@ fn post_each(
     slots: &mut Vec<u32>,
     pushed: &mut Vec<Pushed>,
     words: &Keys,
+    hints: &[Hint],
     row: u32,
 ) -> Result<(), AllocError>
     ensures ok { ArePushed text.old.items keys.old.items pushed.old.items
@@ -90,7 +112,9 @@ fn post_each(
         text.new.items keys.new.items pushed.new.items }
 {
     for number in 0..words.len() {
-        post(alloc, text, keys, slots, pushed, words.at(number), row)?;
+        let key = words.at(number);
+        let hint = hint_at(hints, number, key);
+        post(alloc, text, keys, slots, pushed, key, hint, row)?;
     }
     Ok(())
 }
@@ -102,6 +126,8 @@ fn post_words(
     keys: &mut Vec<KeyAt>,
     slots: &mut Vec<u32>,
     pushed: &mut Vec<Pushed>,
+    read: &mut Keys,
+    hints: &mut Vec<Hint>,
     term: &str,
     row: u32,
 ) -> Result<(), AllocError>
@@ -113,8 +139,19 @@ fn post_words(
         → PostsSome text.old.items keys.old.items pushed.old.items
         text.new.items keys.new.items pushed.new.items }
 {
-    let words = words_of(alloc, term)?;
-    post_each(alloc, text, keys, slots, pushed, &words, row)
+    read.set_to(alloc, term)?;
+    note_hashes(hints, read)?;
+    look_up(hints, text.as_slice(), keys.as_slice(), slots.as_slice());
+    post_each(
+        alloc,
+        text,
+        keys,
+        slots,
+        pushed,
+        read,
+        hints.as_slice(),
+        row,
+    )
 }
 
 /// How many characters a term has.
@@ -131,6 +168,8 @@ fn post_all(
     keys: &mut Vec<KeyAt>,
     slots: &mut Vec<u32>,
     pushed: &mut Vec<Pushed>,
+    read: &mut Keys,
+    hints: &mut Vec<Hint>,
     term: &str,
     type_id: u64,
     row: u32,
@@ -147,8 +186,9 @@ fn post_all(
         return Err(AllocError);
     };
     let measure = Key::Measure { length, type_id };
-    post(alloc, text, keys, slots, pushed, measure, row)?;
-    post_words(alloc, text, keys, slots, pushed, term, row)
+    let hint = Hint::of(measure);
+    post(alloc, text, keys, slots, pushed, measure, hint, row)?;
+    post_words(alloc, text, keys, slots, pushed, read, hints, term, row)
 }
 
 /// Adds the postings of a description. An `Err` changes no posting.
@@ -158,6 +198,8 @@ fn post_term(
     keys: &mut Vec<KeyAt>,
     slots: &mut Vec<u32>,
     pushed: &mut Vec<Pushed>,
+    read: &mut Keys,
+    hints: &mut Vec<Hint>,
     term: &str,
     type_id: u64,
     row: u32,
@@ -171,7 +213,9 @@ fn post_term(
         text.new.items keys.new.items pushed.new.items) }
 {
     let len = pushed.len();
-    match post_all(alloc, text, keys, slots, pushed, term, type_id, row) {
+    match post_all(
+        alloc, text, keys, slots, pushed, read, hints, term, type_id, row,
+    ) {
         Ok(()) => Ok(()),
         Err(error) => {
             pushed.truncate(len);
@@ -201,6 +245,8 @@ impl Postings {
             keys: Vec::new(alloc),
             slots: Vec::new(alloc),
             pushed: Vec::new(alloc),
+            read: Keys::new(alloc),
+            hints: Vec::new(alloc),
             alloc,
         }
     }
@@ -222,6 +268,8 @@ impl Postings {
                     &mut self.keys,
                     &mut self.slots,
                     &mut self.pushed,
+                    &mut self.read,
+                    &mut self.hints,
                     term,
                     type_id,
                     number,

@@ -1,9 +1,10 @@
 //! The words of a text.
 
 ghost use Rattle.std.specs.Prelude.{◌≡◌, ◌++◌, ◌∷◌, [], ℕ, List, length, map, flat_map, chars};
-ghost use Rattle.std.specs.Prelude.{IfOk, OnOk, slice_get, encode_utf8, ◌<◌, Some};
+ghost use Rattle.std.specs.Prelude.{IfOk, OnOk, slice_get, encode_utf8, ◌<◌, Some, IsAscii};
+ghost use Rattle.std.specs.Char.{to_ascii_lowercase};
 ghost use Rattle.std.specs.List.{filter};
-ghost use Rattle.word_model.specs.Words.{is_no_mark, unmarked, words};
+ghost use Rattle.word_model.specs.Words.{is_no_mark, unmarked, plain, words};
 ghost use Rattle.term_words.specs.Posted.{word_key};
 ghost use Rattle.term_words.specs.Laid.{EachEndsWithin, keys_in};
 ghost use Rattle.term_words.specs.Private.Chains.{key_of};
@@ -91,6 +92,43 @@ fn feed_no_mark(
     }
 }
 
+/// Goes on with a character of ASCII.
+fn feed_ascii(
+    text: &mut Vec<u8>,
+    keys: &mut Vec<KeyAt>,
+    start: usize,
+    byte: u8,
+) -> Result<usize, AllocError>
+    requires { byte < 128 }
+    ensures { IfOk result (λ next. Follows text.old.items keys.old.items start (byte ∷ [])
+        text.new.items keys.new.items next) }
+{
+    if byte.is_ascii_alphanumeric() {
+        text.push(byte)?;
+        Ok(start)
+    } else {
+        close(text, keys, start)
+    }
+}
+
+/// Goes on with all characters of a text in ASCII, which is folded to its lower case.
+fn feed_all_ascii(
+    text: &mut Vec<u8>,
+    keys: &mut Vec<KeyAt>,
+    start: usize,
+    term: &[u8],
+) -> Result<usize, AllocError>
+    requires { IsAscii term.now }
+    ensures { IfOk result (λ next. Follows text.old.items keys.old.items start
+        (map to_ascii_lowercase term.now) text.new.items keys.new.items next) }
+{
+    let mut next = start;
+    for byte in term {
+        next = feed_ascii(text, keys, next, byte.to_ascii_lowercase())?;
+    }
+    Ok(next)
+}
+
 /// Goes on with a character, of which the marks are left out.
 fn feed_unmarked(
     text: &mut Vec<u8>,
@@ -110,6 +148,23 @@ fn feed_unmarked(
     Ok(next)
 }
 
+/// Goes on with a character of a folded text.
+fn feed_folded(
+    text: &mut Vec<u8>,
+    keys: &mut Vec<KeyAt>,
+    start: usize,
+    c: char,
+) -> Result<usize, AllocError>
+    ensures { IfOk result (λ next. Follows text.old.items keys.old.items start (unmarked c)
+        text.new.items keys.new.items next) }
+{
+    if c.is_ascii() {
+        feed(text, keys, start, c)
+    } else {
+        feed_unmarked(text, keys, start, c)
+    }
+}
+
 /// Goes on with all characters of a text.
 fn feed_all(
     text: &mut Vec<u8>,
@@ -122,9 +177,28 @@ fn feed_all(
 {
     let mut next = start;
     for c in folded.chars() {
-        next = feed_unmarked(text, keys, next, c)?;
+        next = feed_folded(text, keys, next, c)?;
     }
     Ok(next)
+}
+
+/// Goes on with all characters of a term.
+fn feed_term(
+    alloc: Global,
+    text: &mut Vec<u8>,
+    keys: &mut Vec<KeyAt>,
+    start: usize,
+    term: &str,
+) -> Result<usize, AllocError>
+    ensures { IfOk result (λ next. Follows text.old.items keys.old.items start (plain term.now)
+        text.new.items keys.new.items next) }
+{
+    // The folding of ASCII is its lower case, which takes less time.
+    if term.is_ascii() {
+        return feed_all_ascii(text, keys, start, term.as_bytes());
+    }
+    let folded = default_case_fold_str(alloc, term)?;
+    feed_all(text, keys, start, folded.as_str())
 }
 
 /// Adds the words of a text.
@@ -139,9 +213,8 @@ fn add_words(
         ≡ keys_in text.old.items keys.old.items ++ map word_key (words term.now))
         × EachEndsWithin (length text.new.items) keys.new.items) }
 {
-    let folded = default_case_fold_str(alloc, term)?;
     let start = text.len();
-    let last = feed_all(text, keys, start, folded.as_str())?;
+    let last = feed_term(alloc, text, keys, start, term)?;
     close(text, keys, last)?;
     Ok(())
 }
@@ -154,6 +227,21 @@ impl Keys {
         Keys {
             text: Vec::new(alloc),
             keys: Vec::new(alloc),
+        }
+    }
+
+    /// Replaces the keys by the words of a text. After an `Err` there are none.
+    pub(crate) fn set_to(&mut self, alloc: Global, term: &str) -> Result<(), AllocError>
+        ensures { OnOk result (self.new ≡ map word_key (words term.now)) }
+    {
+        self.text.clear();
+        self.keys.clear();
+        match add_words(alloc, &mut self.text, &mut self.keys, term) {
+            Ok(()) => Ok(()),
+            Err(error) => {
+                self.keys.clear();
+                Err(error)
+            }
         }
     }
 
@@ -177,8 +265,7 @@ impl Keys {
 pub(crate) fn words_of(alloc: Global, term: &str) -> Result<Keys, AllocError>
     ensures { IfOk result (λ keys. keys ≡ map word_key (words term.now)) }
 {
-    let mut text = Vec::new(alloc);
-    let mut keys = Vec::new(alloc);
-    add_words(alloc, &mut text, &mut keys, term)?;
-    Ok(Keys { text, keys })
+    let mut keys = Keys::new(alloc);
+    keys.set_to(alloc, term)?;
+    Ok(keys)
 }

@@ -15,7 +15,7 @@ loop-number-preserved c = λ are.
     let l = c.loop-number in
     let so = l.invariant are in
     subst (λ ts. IsPostedWith text keys pushed ts c.post.new.text.items c.post.new.keys.items c.post.new.pushed.items)
-    (words_next c.args.row c.args.words.now l.number _ c.at.ensures)
+    (words_next c.args.row c.args.words.now l.number _ c.at-key.ensures)
     (posted_both text l.text.items c.post.new.text.items keys l.keys.items c.post.new.keys.items pushed l.pushed.items c.post.new.pushed.items (map (keyed c.args.row) (take l.number c.args.words.now)) _ so (c.in_ok-post.ensures.ok so.are))
 
 pub returns-in_err-post-clause-some : goal.returns-in_err-post-clause-some

@@ -11,7 +11,7 @@ pub loop-c-init : goal.loop-c-init
 loop-c-init c = follows_none c.args.text.now.items c.args.keys.now.items c.args.start
 
 pub loop-c-preserved : goal.loop-c-preserved
-loop-c-preserved c = follows_next c.args.text.now.items c.loop-c.text.items c.feed_unmarked.new.text.items c.args.keys.now.items c.loop-c.keys.items c.feed_unmarked.new.keys.items c.args.start c.loop-c.next _ c.loop-c.yielded c.in-Some.c c.loop-c.invariant c.in_ok-next.ensures
+loop-c-preserved c = follows_next c.args.text.now.items c.loop-c.text.items c.feed_folded.new.text.items c.args.keys.now.items c.loop-c.keys.items c.feed_folded.new.keys.items c.args.start c.loop-c.next _ c.loop-c.yielded c.in-Some.c c.loop-c.invariant c.in_ok-next.ensures
 
 pub returns : goal.returns
 returns c =
