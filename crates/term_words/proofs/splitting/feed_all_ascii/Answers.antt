@@ -9,13 +9,13 @@ pub loop-byte-init : goal.loop-byte-init
 loop-byte-init c = follows_none c.args.text.now.items c.args.keys.now.items c.args.start
 
 pub feed_ascii-requires : goal.feed_ascii-requires
-feed_ascii-requires c = rw c.to_ascii_lowercase.ensures (lower_is_low _ (c.requires c.loop-byte.byte-index))
+feed_ascii-requires c = rw c.to_ascii_lowercase.ensures.value (lower_is_low _ (c.requires c.loop-byte.byte-index))
 
 pub loop-byte-preserved : goal.loop-byte-preserved
 loop-byte-preserved c =
     let l = c.loop-byte in
     follows_byte c.args.text.now.items l.text.items c.feed_ascii.new.text.items c.args.keys.now.items l.keys.items c.feed_ascii.new.keys.items c.args.start l.next c.in_ok-next.next c.args.term.now l.byte-index _ c.loop-byte-test.true refl l.invariant
-    (rw c.to_ascii_lowercase.ensures at c.in_ok-next.ensures)
+    (rw c.to_ascii_lowercase.ensures.value at c.in_ok-next.ensures)
 
 pub returns : goal.returns
 returns c =
