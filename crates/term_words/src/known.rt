@@ -141,12 +141,23 @@ fn may_be(key: Key<'_>, hint: &Hint) -> bool {
     }
 }
 
+/// Whether the key has the number of the hint.
+fn is_hinted(text: &[u8], keys: &[KeyAt], key: Key<'_>, hint: &Hint) -> bool
+    ensures { IsTrue result → slice_get (keys_in text.now keys.now) hint.now.number
+        ≡ Some (key_of key.entry) }
+{
+    if !may_be(key, hint) {
+        return false;
+    }
+    has_number(text, keys, hint.number, key)
+}
+
 /// The number of the key, if the table has it.
 fn find(text: &[u8], keys: &[KeyAt], slots: &[u32], key: Key<'_>, hint: Hint) -> Option<u32>
     ensures { IfSome result (λ number. slice_get (keys_in text.now keys.now) number
         ≡ Some (key_of key.entry)) }
 {
-    if may_be(key, &hint) && has_number(text, keys, hint.number, key) {
+    if is_hinted(text, keys, key, &hint) {
         return Some(hint.number);
     }
     if slots.is_empty() {
