@@ -1,4 +1,4 @@
-use Rattle.std.proofs.Common.{◌≡◌, ℕ, List, [], length, replicate, sym, ap, subst, ◌∙◌, take_all}
+use Rattle.std.proofs.Common.{◌≡◌, ◌+◌, ℕ, List, [], length, sym, ap, subst, ◌∙◌, take, take_all}
 use Rattle.std.proofs.lemmas.List.{length-replicate}
 use Rattle.term_words.specs.Private.{all_in, AreMarked}
 use Rattle.term_words.proofs.Marks.{ones, marked_first, marked_next}
@@ -20,7 +20,7 @@ loop-number-preserved c =
     let split = c.args.split.now in
     let count = length split.sizes.rows.now in
     let next = marked_next (all_in split.words) c.args.wanted.now _ c.loop-number.number count c.loop-number.marks.items c.narrow.new.marks.items c.at.ensures c.loop-number.invariant.0 (rw c.as_slice.ensures.value at c.narrow.ensures) in (
-      subst (λ (v : List ℕ). AreMarked (all_in split.words) _ count v) (sym (ap (λ v. v.items) c.swap.ensures.x_after)) next,
+      subst (λ (v : List ℕ). AreMarked (all_in split.words) (take (c.loop-number.number + 1) c.args.wanted.now) count v) (sym (ap (λ v. v.items) c.swap.ensures.x_after)) next,
       ap (λ v. length v.items) c.swap.ensures.y_after ∙ c.loop-number.invariant.0.many,
     )
 

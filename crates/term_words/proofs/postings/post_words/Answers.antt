@@ -8,8 +8,8 @@ use Rattle.term_words.proofs.postings.post_words.Goals as goal
 pub returns-in_err-set_to-clause-some : goal.returns-in_err-set_to-clause-some
 returns-in_err-set_to-clause-some c = λ are. ([], posted_none c.args.text.now.items c.args.keys.now.items c.args.pushed.now.items are)
 
-pub returns-in_err-note_hints-clause-some : goal.returns-in_err-note_hints-clause-some
-returns-in_err-note_hints-clause-some c = λ are. ([], posted_none c.args.text.now.items c.args.keys.now.items c.args.pushed.now.items are)
+pub returns-in_err-note_hashes-clause-some : goal.returns-in_err-note_hashes-clause-some
+returns-in_err-note_hashes-clause-some c = λ are. ([], posted_none c.args.text.now.items c.args.keys.now.items c.args.pushed.now.items are)
 
 pub returns-clause-ok : goal.returns-clause-ok
 returns-clause-ok c = λ are.

@@ -1,4 +1,4 @@
-use Rattle.std.proofs.Common.{map, subst, take_all}
+use Rattle.std.proofs.Common.{get_or, map, refl, subst, take_all}
 use Rattle.std.specs.Char.{to_ascii_lowercase}
 use Rattle.term_words.specs.Private.{Follows}
 use Rattle.term_words.proofs.Runs.{follows_none}
@@ -14,7 +14,7 @@ feed_ascii-requires c = rw c.to_ascii_lowercase.ensures.value (lower_is_low _ (c
 pub loop-byte-preserved : goal.loop-byte-preserved
 loop-byte-preserved c =
     let l = c.loop-byte in
-    follows_byte c.args.text.now.items l.text.items c.feed_ascii.new.text.items c.args.keys.now.items l.keys.items c.feed_ascii.new.keys.items c.args.start l.next c.in_ok-next.next c.args.term.now l.byte-index _ c.loop-byte-test.true refl l.invariant
+    follows_byte c.args.text.now.items l.text.items c.feed_ascii.new.text.items c.args.keys.now.items l.keys.items c.feed_ascii.new.keys.items c.args.start l.next c.in_ok-next.next c.args.term.now l.byte-index (get_or c.args.term.now l.byte-index 0) c.loop-byte-test.true refl l.invariant
     (rw c.to_ascii_lowercase.ensures.value at c.in_ok-next.ensures)
 
 pub returns : goal.returns

@@ -18,8 +18,8 @@ returns-then-is_ascii c = IfOk-weaker c.feed_all_ascii.result _ _
     (sym (plain_is_lower c.args.term.now (where_true _ _ c.is_ascii.result c.is_ascii.ensures.cases c.if-is_ascii.true))) (rw c.as_bytes.ensures.value at f))
     c.feed_all_ascii.ensures
 
-pub returns-else-is_ascii : goal.returns-else-is_ascii
-returns-else-is_ascii c = IfOk-weaker c.feed_all.result _ _
+pub returns : goal.returns
+returns c = IfOk-weaker c.feed_all.result _ _
     (λ next f. subst (λ cs. Follows c.args.text.now.items c.args.keys.now.items c.args.start cs c.feed_all.new.text.items c.feed_all.new.keys.items next)
     (plain_is c.args.term.now _ (chars_from_encodes _ c.as_str.result.now c.as_str.utf8 (sym (c.as_str.ensures.value ∙ c.in_ok-folded.ensures)))) f)
     c.feed_all.ensures

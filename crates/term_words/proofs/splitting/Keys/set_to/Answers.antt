@@ -4,11 +4,8 @@ use Rattle.term_words.specs.Posted.{word_key}
 use Rattle.term_words.specs.Laid.{keys_in, EachEndsWithin}
 use Rattle.term_words.proofs.splitting.Keys.set_to.Goals as goal
 
-pub invariant_of-self-in-Ok : goal.invariant_of-self-in-Ok
-invariant_of-self-in-Ok c = (c.in-Ok.ensures (subst (λ ks. EachEndsWithin (length c.clear.new.self.items) ks) (sym c.clear-2.ensures.items) tt)).1
-
 pub invariant_of-self-in-Err : goal.invariant_of-self-in-Err
-invariant_of-self-in-Err c = subst (λ ks. EachEndsWithin (length c.add_words.new.text.items) ks) (sym c.clear-3.ensures.items) tt
+invariant_of-self-in-Err c = subst (λ ks. EachEndsWithin (length c.add_words.new.text.items) ks) (sym c.clear-in-Err.ensures.items) tt
 
 pub returns-in-Ok : goal.returns-in-Ok
 returns-in-Ok c =
