@@ -21,5 +21,5 @@ returns-then-is_ascii c = IfOk-weaker c.feed_all_ascii.result _ _
 pub returns : goal.returns
 returns c = IfOk-weaker c.feed_all.result _ _
     (λ next f. subst (λ cs. Follows c.args.text.now.items c.args.keys.now.items c.args.start cs c.feed_all.new.text.items c.feed_all.new.keys.items next)
-    (plain_is c.args.term.now _ (chars_from_encodes _ c.as_str.result.now c.as_str.utf8 (sym (c.as_str.ensures.value ∙ c.in_ok-folded.ensures)))) f)
+    (plain_is c.args.term.now _ (sym (chars_from_encodes _ c.as_str.result.now c.as_str.utf8 (sym (c.as_str.ensures.value ∙ c.in_ok-folded.ensures))))) f)
     c.feed_all.ensures
