@@ -109,6 +109,11 @@ def timed(words: Sequence[str]) -> Cost:
         return Cost(wall, usage.ru_utime + usage.ru_stime, kilobytes * KILOBYTE, text)
 
 
+def child_of(pid: int) -> int:
+    """The process that a process has started."""
+    return int(Path("/proc/%d/task/%d/children" % (pid, pid)).read_text("ascii").split()[0])
+
+
 def seconds_used(pid: int) -> float:
     """The seconds of the processor that a process has used, which the system says in hundredths."""
     words = Path("/proc/%d/stat" % pid).read_text("ascii").rpartition(")")[2].split()

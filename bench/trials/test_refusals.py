@@ -128,6 +128,6 @@ def test_a_line_is_refused_that_takes_nothing(place: Place, monkeypatch: pytest.
 
 def test_another_reply_with_room_is_expected(place: Place, monkeypatch: pytest.MonkeyPatch,
                                              capsys: pytest.CaptureFixture[str]) -> None:
-    monkeypatch.setattr(growths_room.Model, "reply", lambda model, line: ["OK 1 6 1"])
+    monkeypatch.setattr(Model, "reply", lambda model, line: ["OK 1 6 1"])
     assert not rooms_on(place, monkeypatch)
     assert "WRONG: 'IMPORT r1': ['OK 1 6 0']" in capsys.readouterr().out
