@@ -235,7 +235,7 @@ impl Listing {
             self.change(alloc, word, rest)?;
         }
         match &self.directory {
-            Some(_) if word == "encode" => spell_block(alloc, &self.block),
+            Some(_) if word == "encode" => spell_block(alloc, self.block.as_slice()),
             Some(directory) => spell_directory(alloc, directory),
             None => Err(NoAnswer::NoQuestion),
         }
