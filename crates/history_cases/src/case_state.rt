@@ -3,9 +3,9 @@
 //! A part is a release: the lines of its rows, each after its kind, as in `concept 138875005|..`,
 //! in quotes if a byte is given by its digits; for rows that differ in a number see `numbered.rt`.
 //! Each case begins with an empty history.
-//! - `import NAME` prints the receipt, or `refused`; `take NAME` takes the rows as those of the next
-//!   import, in their order and without the plain programs, for which they are too many, and prints
-//!   how many there are;
+//! - `import NAME` prints the receipt, or `refused`; `take NAME` takes the rows as those of the
+//!   next import, in their order and without the plain programs, for which they are too many, and
+//!   prints how many there are;
 //! - `receipt NUMBER` prints the receipt of an import at a later time;
 //! - `snapshot PIN DATE` prints how many rows the Snapshot has;
 //! - `shown NAME COUNT` prints how many ghost rows there are of a release, and how many after they
