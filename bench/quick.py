@@ -21,7 +21,6 @@ import threading
 import time
 from concurrent.futures import ThreadPoolExecutor
 from functools import partial
-from itertools import zip_longest
 from pathlib import Path
 from typing import Callable, Iterator, NamedTuple
 
@@ -29,7 +28,8 @@ from unproved import FAST_BUILD, FAST_RUN, Builder, bytes_of, kit_folder, run_pr
 
 TOP = Path(__file__).resolve().parent.parent
 sys.path.append(str(TOP / "bench" / "trials"))
-from try_program import SCRIPTS, Outcome, run_script  # noqa: E402
+from transcripts import differences, text_of  # noqa: E402
+from try_program import SCRIPTS, Outcome, run_script, total  # noqa: E402
 
 PROGRAM = "sctd"
 
@@ -61,10 +61,6 @@ class Part(NamedTuple):
     name: str
     run: Callable[[], Outcome]
     is_trial: bool = False
-
-
-def text_of(data: bytes) -> str:
-    return data.decode("utf-8", "backslashreplace")
 
 
 def last_lines(text: str) -> str:
@@ -105,9 +101,6 @@ class Crates:
 
     def is_program(self, name: str) -> bool:
         return (self.folder(name) / "src" / "main.rt").exists()
-
-    def is_used(self, name: str) -> bool:
-        return any(name in uses for uses in self.uses.values())
 
 
 class Together:
@@ -162,12 +155,13 @@ class Tree:
         """The parts in their order: what takes longest, and what others wait for, comes first."""
         uses = self.crates.uses
         tested = {name: self.crates.count_tests(name) for name in uses}
-        joined = [n for n in uses if tested[n] and not self.crates.is_used(n)
-                  and not self.crates.is_program(n)]
+        used = set().union(*uses.values())
+        joined = [n for n in uses if tested[n] and n not in used and not self.crates.is_program(n)]
         apart = [name for name in uses if tested[name] and name not in joined]
-        run = [name for name in uses if self.crates.is_program(name)]
         count = sum(tested[name] for name in joined)
-        parts = [self.part_of_program(PROGRAM)]
+        programs = {name: Part(PROGRAM_OF + name, partial(self.run_program, name)) for name in uses
+                    if self.crates.is_program(name)}
+        parts = [programs.pop(PROGRAM)]
         if joined:
             folder = Together(self.crates, joined).folder
             name = "tests of %d crates" % len(joined)
@@ -175,7 +169,7 @@ class Tree:
         trials = [script for script in SCRIPTS if script[0] != SOAK]
         parts += [Part("bench/" + " ".join(words), partial(self.run_trial, words), is_trial=True)
                   for words in (LONG_SOAK, *trials, *OTHER_TRIALS)]
-        parts += [self.part_of_program(name) for name in run if name != PROGRAM]
+        parts += programs.values()
         parts += [Part("tests of " + name,
                        partial(self.run_tests, self.crates.folder(name), tested[name]))
                   for name in apart]
@@ -183,9 +177,6 @@ class Tree:
         return parts + [Part("bench/" + words.split()[0],
                              partial(run_script, words.split(), LINES_TOLD))
                         for words in DOCUMENT_CHECK.findall(text)]
-
-    def part_of_program(self, name: str) -> Part:
-        return Part(PROGRAM_OF + name, partial(self.run_program, name))
 
     def run_tests(self, folder: Path, count: int) -> Outcome:
         """Runs the tests of a crate, which has to have so many."""
@@ -238,19 +229,10 @@ def compared(program: Path, crate: Path) -> Outcome:
     wanted, status = bytes_of(crate / "stdout"), status_of(crate)
     if done.stdout == wanted and done.returncode == status:
         return Outcome(1, 0)
-    told = first_difference(text_of(done.stdout), text_of(wanted))
+    told = "\n".join(differences(text_of(wanted), text_of(done.stdout), "stdout")) + "\n"
     if done.returncode != status:
         told += "status %d, and %d was wanted\n" % (done.returncode, status)
     return Outcome(0, 1, 0, told + last_lines(text_of(done.stderr)))
-
-
-def first_difference(written: str, wanted: str) -> str:
-    """The first line in which two texts differ, with its number."""
-    pairs = zip_longest(written.split("\n"), wanted.split("\n"), fillvalue="")
-    for number, (one, other) in enumerate(pairs, 1):
-        if one != other:
-            return "line %d: %r, and %r was wanted\n" % (number, one, other)
-    return ""
 
 
 class Progress:
@@ -306,10 +288,9 @@ def main() -> int:
             return 2
         with ThreadPoolExecutor(at_once) as workers:
             outcomes = list(workers.map(progress.run, parts))
-    sums = (sum(numbers) for numbers in list(zip(*outcomes))[:3])
-    total = Outcome(*sums)
-    print(total)
-    return 0 if total.passed and not total.failed else 1
+    every = total(outcomes)
+    print(every)
+    return 0 if every.passed and not every.failed else 1
 
 
 if __name__ == "__main__":

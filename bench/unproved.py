@@ -107,12 +107,8 @@ class Builder:
                                status=0 if is_run else 1)
         write_script(tools / "ld.lld", linker)
 
-    def run(
-        self,
-        crate: Path,
-        words: Sequence[str],
-        around: Mapping[str, str] | None = None,
-    ) -> subprocess.CompletedProcess[bytes]:
+    def run(self, crate: Path, words: Sequence[str],
+            around: Mapping[str, str] | None = None) -> subprocess.CompletedProcess[bytes]:
         """Runs `rt try` with these words in a crate's folder. What the program prints is its
         standard output, and what rt says its standard error."""
         return subprocess.run([str(self.rt), "try", *words], cwd=crate,

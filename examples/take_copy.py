@@ -6,8 +6,9 @@ take_copy.py --program SCTD --store FILE --questions PATH COPY COMMAND ..
 COPY is a file that BACKUP made on the machine that imports, in the folder of FILE or elsewhere on
 its disk. It is taken only if it is a whole store, and if it has all imports that the hub at PATH
 has, with the same receipts: so a pin means what it meant before. Then it gets the name FILE, with
-the owner of the file before, COMMAND is run, such as `systemctl restart sctd`, and
-the hub has to answer with the imports of COPY. Where FILE is missing, there is nothing to compare.
+the owner of the file before, and its list of imports, COPY.imports, if it is there, the name
+FILE.imports; COMMAND is run, such as `systemctl restart sctd`, and the hub has to answer with the
+imports of COPY. Where FILE is missing, there is nothing to compare.
 
 The status is 0 where the hub has all imports of COPY, with as many as it said, which is printed; it
 is 1 where COPY isn't taken, and stays where it is, or where the hub doesn't answer afterwards. So
@@ -24,6 +25,7 @@ from collections.abc import Sequence
 from pathlib import Path
 
 sys.path.append(str(Path(__file__).resolve().parent.parent / "service"))
+from sctd_service.hub.imports import ENDING  # noqa: E402
 from sctd_service.protocol import REFUSED, HubClient, HubFailed, last_line  # noqa: E402
 
 # How long the hub may take to open the store, and how often it is looked whether it has.
@@ -84,13 +86,17 @@ def compare(program: str, copy: Path, questions: str, imports: int) -> None:
 
 
 def put(copy: Path, store: Path) -> None:
-    """Gives the copy the store's name, once all of it is on the disk."""
+    """Gives the copy and its list of imports the store's names, once they are on the disk."""
     like = os.stat(store if store.exists() else store.parent)
-    with open(copy, "rb") as file:
-        os.fchown(file.fileno(), like.st_uid, like.st_gid)
-        os.fchmod(file.fileno(), OWNERS_ALONE)
-        os.fsync(file.fileno())
-    os.replace(copy, store)
+    names = [(Path(f"{copy}{ending}"), f"{store}{ending}") for ending in ("", ENDING)]
+    names = [(path, name) for path, name in names if path.exists()]
+    for path, _ in names:
+        with open(path, "rb") as file:
+            os.fchown(file.fileno(), like.st_uid, like.st_gid)
+            os.fchmod(file.fileno(), OWNERS_ALONE)
+            os.fsync(file.fileno())
+    for path, name in names:
+        os.replace(path, name)
     folder = os.open(store.parent, os.O_RDONLY | os.O_DIRECTORY)
     os.fsync(folder)
     os.close(folder)

@@ -19,7 +19,7 @@ from collections.abc import Iterator
 from documents import TOP, documents, lost_links, name_of
 
 sys.path.append(str(TOP / "bench" / "rattle"))
-from source import TOP as ROOT, files_of, folder_of, read  # noqa: E402
+from source import TOP as ROOT, files_of, folder_of, read, tell  # noqa: E402
 
 QUOTED = re.compile(r"`([^`]+)`")
 NAMED = re.compile(r"(?<![\w:])(\w+)::((?:\w+::)*)(\{[^}]*\}|\w+)")
@@ -113,18 +113,14 @@ def scripts_not_listed() -> Iterator[str]:
 def main() -> int:
     crates = [os.path.basename(path) for path in glob.glob(ROOT + "/crates/*")]
     words = {crate: words_of(crate) for crate in crates}
-    count, lost = 0, 0
+    count, lost = 0, list[str]()
     for path in documents():
         text = read(str(path))
         count += len(QUOTED.findall(text))
-        for fault in (*faults_of(text, words), *lost_links(path, text)):
-            lost += 1
-            print("%s: %s" % (name_of(path), fault), file=sys.stderr)
-    for fault in (*named_as_crates(crates), *proofs_of_nothing(words), *scripts_not_listed()):
-        lost += 1
-        print(fault, file=sys.stderr)
-    print("quoted texts: %d, of what isn't there: %d" % (count, lost), file=sys.stderr)
-    return 1 if lost else 0
+        lost += ("%s: %s" % (name_of(path), fault)
+                 for fault in (*faults_of(text, words), *lost_links(path, text)))
+    lost += [*named_as_crates(crates), *proofs_of_nothing(words), *scripts_not_listed()]
+    return tell(lost, f"quoted texts: {count}, of what isn't there: %d", count)
 
 
 if __name__ == "__main__":

@@ -215,10 +215,7 @@ def add_switch(top: Path, users: Iterable[str]) -> None:
         path.parent.mkdir(parents=True)
         path.write_text(text, encoding="utf-8")
     listed = (top / "crates.txt").read_text(encoding="utf-8").splitlines()
-    lines = [
-        line + " " + SWITCH if line.split(":")[0] in users else line
-        for line in listed
-    ]
+    lines = [line + " " + SWITCH if line.split(":")[0] in users else line for line in listed]
     text = "\n".join(lines + [SWITCH + ":"]) + "\n"
     (top / "crates.txt").write_text(text, encoding="utf-8")
 
@@ -290,9 +287,8 @@ class Tests:
     def failed_transcripts(self, path: Path) -> list[str]:
         """The cases of bench/cases/ that aren't told to be `ok` of the program."""
         script = TOP / "bench" / "trials" / "try_cases.py"
-        done = subprocess.run(
-            [sys.executable, str(script), str(path)],
-            stdout=subprocess.PIPE, timeout=TRANSCRIPT_SECONDS, check=False)
+        done = subprocess.run([sys.executable, str(script), str(path)], stdout=subprocess.PIPE,
+                              timeout=TRANSCRIPT_SECONDS, check=False)
         printed = cases_in(done.stdout)
         return [case for case in names_of_cases() if case not in printed]
 
@@ -347,8 +343,7 @@ def main() -> int:
     parser.add_argument("--keep", type=Path, help="the folder of the copy, which stays")
     asked = parser.parse_args()
     numbers = {call: number for number, call in enumerate(calls(), 1)
-               if asked.only in call.crate + " " + call.name
-               and asked.tests in (None, call.tests)}
+               if asked.only in f"{call.crate} {call.name}" and asked.tests in (None, call.tests)}
     is_right = is_in_sources(list(numbers))
     if asked.table or not is_right:
         print_row("always_refused.py [--tests NAME]", "a public call always runs out of memory",

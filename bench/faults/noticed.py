@@ -21,13 +21,12 @@ sys.path += [str(TOP / "bench"), str(TOP / "bench" / "rattle")]
 from always_refused import SWITCH, Tests, add_switch, at_its_begin, build, copied  # noqa: E402
 from always_refused import crate_of, is_program  # noqa: E402
 from edits import Change, Edit, all_edits  # noqa: E402
-from source import Item, function_around, parts_of_impl  # noqa: E402
+from source import Item, function_around, parameters, parts_of_impl  # noqa: E402
 from unproved import Builder, kit_folder  # noqa: E402
 
 BY = "layer_cases,store_cases,history_cases,try_cases"
 # The number of an edit is one byte, and 0 is none.
 MOST = 255
-OPENED, CLOSED = "([{<", ")]}>"
 
 
 def edits_named(name: str) -> list[Edit]:
@@ -37,36 +36,6 @@ def edits_named(name: str) -> list[Edit]:
     if not found:
         raise SystemExit("noticed.py: there is no edit %s" % name)
     return found
-
-
-def skip(text: str, at: int) -> int:
-    """The place behind the bracket that closes the one at a place."""
-    depth = 0
-    while True:
-        if text[at] in OPENED:
-            depth += 1
-        elif text[at] in CLOSED and text[at - 1 : at + 1] not in ("->", "=>"):
-            depth -= 1
-        at += 1
-        if depth == 0:
-            return at
-
-
-def parameters(text: str) -> list[str]:
-    """The names of a function's parameters; the text begins with its own name."""
-    at = len((re.match(r"\w+", text) or [""])[0])
-    if text[at] == "<":
-        at = skip(text, at)
-    inside, names, depth = text[at + 1 : skip(text, at) - 1], [""], 0
-    for number, sign in enumerate(inside):
-        is_arrow = inside[number - 1 : number + 1] in ("->", "=>")
-        depth += (sign in OPENED) - (sign in CLOSED and not is_arrow)
-        if sign == "," and depth == 0:
-            names.append("")
-        else:
-            names[-1] += sign
-    words = [name.split(":")[0].replace("mut ", "").strip(" &\n") for name in names]
-    return [re.sub(r"^'\w+ ", "", word) for word in words if word]
 
 
 def call_of(name: str, names: list[str], is_method: bool) -> str:

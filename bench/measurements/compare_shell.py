@@ -24,67 +24,82 @@ import random
 import sys
 import time
 from collections.abc import Callable, Iterable, Iterator, Mapping, Sequence
-from functools import partial
 from pathlib import Path
 from typing import Optional
 
 import make_release as rf2
 from make_release import IS_A
-from measure_harness import ROWS, Cost, Sctd, Served, asked_for, by_itself, made_release, ran
+from measure_harness import Cost, Sctd, Served, compared_by, made_release, print_row, ran
 
-# The columns of each kind as they stand in a release, in SQLite's names.
-COLUMNS = {
-    "C": ("id", "time", "active", "module", "status"),
-    "D": ("id", "time", "active", "module", "concept", "language", "type", "term", "significance"),
-    "R": ("id", "time", "active", "module", "source", "destination", "part", "type",
-          "characteristic", "modifier"),
-    "A": ("id", "time", "active", "module", "refset", "referenced", "target"),
-    "V": ("id", "time", "active", "module", "source", "value", "part", "type",
-          "characteristic", "modifier"),
-}
-TABLES = {"C": "concept", "D": "description", "R": "relationship", "A": "association",
-          "V": "concrete"}
+# The sorts of files that a store keeps, and the basic ones, which each layout does.
+KEPT_SORTS, BASIC = {**rf2.BASIC_SORTS, **rf2.FURTHER_SORTS}, tuple(rf2.BASIC_SORTS)
+# The columns that the shell keeps as numbers, beside those of SCTIDs.
+NUMBERS = ("effectiveTime", "active", "relationshipGroup", "mapGroup", "mapPriority",
+           "attributeOrder", "descriptionLength", "grouped")
 # The column that says what a row is about, of the kinds that questions ask.
-SUBJECTS = {"D": "concept", "R": "source"}
-TEXTS = ("language", "term", "value")
+SUBJECTS = {"D": "conceptId", "R": "sourceId"}
 DAYS = ("20120731", "20191231", "20251231", "20261231")
 # So many rows of a kind are held at most, of which the questions are drawn.
-MOST_DRAWN = 100000
-
-NEWEST = (" AND x.time <= {date} AND NOT EXISTS (SELECT 1 FROM {table} y"
-          " WHERE y.id = x.id AND y.time > x.time AND y.time <= {date})")
+MOST_DRAWN = 100_000
+NEWEST = (" AND {0}.effectiveTime <= {1} AND NOT EXISTS (SELECT 1 FROM {2} y WHERE y.id = {0}.id"
+          " AND y.effectiveTime > {0}.effectiveTime AND y.effectiveTime <= {1})")
 INDEXES = (
-    "CREATE INDEX terms ON description (term COLLATE NOCASE) WHERE active = 1;",
-    "CREATE INDEX children ON relationship (destination, source)"
-    " WHERE active = 1 AND type = %d;" % IS_A,
-    "CREATE INDEX replacements ON association (referenced) WHERE active = 1;",
-    "CREATE INDEX descriptions ON description (concept) WHERE active = 1;",
-    "CREATE INDEX relationships ON relationship (source) WHERE active = 1;",
-)
+    "CREATE INDEX terms ON D (term COLLATE NOCASE) WHERE active = 1;",
+    "CREATE INDEX children ON R (destinationId, sourceId) WHERE active = 1 AND typeId = %d;" % IS_A,
+    "CREATE INDEX replacements ON A (referencedComponentId) WHERE active = 1;",
+    "CREATE INDEX descriptions ON D (conceptId) WHERE active = 1;",
+    "CREATE INDEX relationships ON R (sourceId) WHERE active = 1;")
 # For an audit: without them a Delta and the dates would read whole tables.
 AUDIT_INDEXES = (
-    "CREATE INDEX parents ON relationship (source, destination)"
-    " WHERE active = 1 AND type = %d;" % IS_A,
-    "CREATE INDEX targets ON association (target) WHERE active = 1;",
-    *("CREATE INDEX times_of_%s ON %s (time);" % (table, table) for table in TABLES.values()),
-)
+    "CREATE INDEX parents ON R (sourceId, destinationId) WHERE active = 1 AND typeId = %d;" % IS_A,
+    "CREATE INDEX targets ON A (targetComponentId) WHERE active = 1;",
+    *("CREATE INDEX times_of_%s ON %s (effectiveTime);" % (kind, kind) for kind in BASIC))
 # The day of the release that makes a tree of the concepts.
 TREE_DAY = "20260731"
 # Between two dates, as numbers.
 YEAR = 10000
 SEED, SEED_OF_TREE = 7, 11
-
-# The head of the table that is printed.
-HEAD = """| Rows | Work | sctd: wall | processor | peak, MB | SQLite's shell: wall | processor \
-| peak, MB | processor, SQLite / sctd |
-|---|---|---|---|---|---|---|---|---|"""
+SHELL = "compared.shell"
+SETTINGS = ("PRAGMA journal_mode = WAL;", "PRAGMA synchronous = FULL;")
 
 # The rows of a release by their kinds, each as its columns.
 Rows = dict[str, list[list[str]]]
-# A list of lines, with its title.
+# A list of lines, with its title; and forms of lines, with how many of these there are.
 Asked = tuple[str, list[str]]
-SHELL = "compared.shell"
-SETTINGS = ("PRAGMA journal_mode = WAL;", "PRAGMA synchronous = FULL;")
+Forms = Sequence[tuple[str, int, list[str]]]
+
+# What is asked: a title, how many lines, and their forms in turn. `{D4}` is what a row of kind D
+# that is drawn has in its column 4. Those that are asked as of the first import, too:
+FIRST: Forms = (
+    ("10,000 rows of any kind", 10_000, ["GET {any} {date}"]),
+    ("10,000 histories", 10_000, ["HISTORY {any}"]),
+    ("1,000 times CHILDREN", 1_000, ["CHILDREN {R5} {date}"]),
+    ("1,000 times REPLACED", 1_000, ["REPLACED {A5} {date}"]),
+    ("1,000 times ABOUT D", 1_000, ["ABOUT D {D4} {date}"]),
+    ("1,000 times ABOUT R", 1_000, ["ABOUT R {R4} {date}"]),
+    ("1,000 pages of 100", 1_000, ["PAGE C {date} {C0} 100"]))
+# Further ones, those of an audit, and what is asked once the concepts are a tree.
+FURTHER: Forms = (
+    ("100,000 concepts", 100_000, ["GET C {C0} {date}"]),
+    ("100,000 descriptions", 100_000, ["GET D {D0} {date}"]),
+    ("1,000 pages of 1,000", 1_000, ["PAGE C {date} {C0} 1000"]),
+    ("100 searches, limit 1,000", 100, ["TERMS {date} 1000 {word}"]),
+    ("the descriptions of 10,000 concepts", 10_000, ["ABOUT D {D4} {date}"]),
+    ("the relationships of 10,000 concepts", 10_000, ["ABOUT R {R4} {date}"]))
+AUDITS: Forms = (
+    *(("1,000 pages of 1,000 " + title, 1_000, [
+        "DELTA %s %s {%s0} 1000" % (kind, days, kind) for kind in "CDR"])
+      for days, title in (("20250131 20261231", "of the last releases"),
+                          ("20120731 20191231", "of seven years"))),
+    ("the descriptions that 10,000 concepts ever had", 10_000, ["TIMELINE D {D4}"]),
+    ("the relationships that 10,000 concepts ever had", 10_000, ["TIMELINE R {R4}"]),
+    ("what 10,000 components replace", 10_000, ["REPLACES {A6} {date}"]),
+    ("all concepts above 1,000 concepts", 1_000, ["ANCESTORS {C0} {date}"]),
+    ("all concepts below 1,000 concepts", 1_000, ["DESCENDANTS {C0} {date}"]),
+    ("the dates, 10,000 times", 10_000, ["DATES"]))
+IN_A_TREE: Forms = (
+    ("all concepts below the root, 10 times", 10, ["DESCENDANTS %d 20261231" % rf2.ROOT]),
+    ("all concepts above 10,000 concepts, in a tree", 10_000, ["ANCESTORS {C0} 20261231"]))
 
 
 def draw_rows(folder: str, chance: random.Random) -> tuple[int, Rows]:
@@ -92,7 +107,7 @@ def draw_rows(folder: str, chance: random.Random) -> tuple[int, Rows]:
     likely."""
     counts: dict[str, int] = {}
     drawn: Rows = {}
-    for kind in TABLES:
+    for kind in BASIC:
         kept = drawn.setdefault(kind, [])
         for counts[kind], row in enumerate(rf2.rows_of(folder, kind), 1):
             place = len(kept) if len(kept) < MOST_DRAWN else chance.randrange(counts[kind])
@@ -102,14 +117,14 @@ def draw_rows(folder: str, chance: random.Random) -> tuple[int, Rows]:
 
 
 class Shell:
-    """SQLite's shell on a new file, in which statements make tables."""
+    """SQLite's shell on a new file, in which there are tables for some sorts of files."""
 
-    def __init__(self, place: str, name: str, tables: Iterable[str]) -> None:
-        self.place, self.path = place, os.path.join(place, name)
+    def __init__(self, place: str, name: str, sorts: Sequence[str]) -> None:
+        self.place, self.path, self.sorts = place, os.path.join(place, name), sorts
         for end in ("", "-wal", "-shm"):
             Path(self.path + end).unlink(missing_ok=True)
         self.kept = 0
-        self.run([*SETTINGS, *tables])
+        self.run([*SETTINGS, *map(table_of, sorts)])
 
     def run(self, lines: Sequence[str]) -> tuple[bytes, Cost]:
         """What it prints for these lines, and what they cost."""
@@ -118,137 +133,103 @@ class Shell:
         text = "\n".join([*head, *lines]) + "\n"
         return ran(["sqlite3", "-batch", "-bail", self.path], text.encode(), self.place)
 
-    def take(self, files: Iterable[tuple[str, object]], indexes: Sequence[str] = ()) -> Cost:
-        """Imports files, each into a table, and makes indexes. The rows are trusted to be new."""
-        lines = ['.import --skip 1 "%s" %s' % (path, table) for table, path in files]
+    def take(self, name: str, indexes: Sequence[str] = ()) -> Cost:
+        """Imports a release, and makes indexes. The rows are trusted to be new."""
+        files = rf2.files_of(os.path.join(self.place, name), self.sorts)
+        lines = ['.import --skip 1 "%s" %s' % (path, sort) for sort, path in files]
         return self.run([".mode tabs", "BEGIN;", *lines, *indexes, "COMMIT;"])[1]
+
+    def take_again(self, name: str) -> Cost:
+        """Imports a release, of which what is known is passed over."""
+        lines = [".mode tabs", "PRAGMA temp_store = MEMORY;", "BEGIN;"]
+        for sort, path in rf2.files_of(os.path.join(self.place, name), self.sorts):
+            lines += ["CREATE TABLE temp.staged_%s (%s);" % (sort, ", ".join(columns_of(sort))),
+                      '.import --skip 1 --schema temp "%s" staged_%s' % (path, sort),
+                      "INSERT OR IGNORE INTO %s SELECT * FROM temp.staged_%s;" % (sort, sort)]
+        return self.run([*lines, "COMMIT;"])[1]
 
     def asked(self, queries: Iterable[str]) -> tuple[bytes, Cost]:
         """The lines that it prints for queries, and what they cost."""
         return self.run([".mode list", '.separator "\\t" "\\n"', *queries])
 
 
-def table_of(kind: str) -> str:
-    """The statement that makes the table of a kind."""
-    texts = (*TEXTS, *["id"] * (kind == "A"))
-    columns = ["%s %s NOT NULL" % (c, "TEXT" if c in texts else "INTEGER") for c in COLUMNS[kind]]
-    columns.append("PRIMARY KEY (id, time)")
-    return "CREATE TABLE %s (%s) WITHOUT ROWID;" % (TABLES[kind], ", ".join(columns))
+def columns_of(sort: str) -> list[str]:
+    return KEPT_SORTS[sort].columns.split(" ")
 
 
-def tables_and_files(folder: str) -> Iterator[tuple[str, Path]]:
-    """The files of a release, each with the table of its kind."""
-    yield from ((TABLES[kind], path) for kind, path in rf2.files_of(folder, TABLES))
+def table_of(sort: str) -> str:
+    """The statement that makes the table of a sort."""
+    id_of = "TEXT" if KEPT_SORTS[sort].kind in "AM" else "INTEGER"
+    columns = ["%s %s NOT NULL" % (column, id_of if column == "id" else "INTEGER"
+                                   if column in NUMBERS or column.endswith("Id") else "TEXT")
+               for column in columns_of(sort)]
+    return "CREATE TABLE %s (%s, PRIMARY KEY (id, effectiveTime)) WITHOUT ROWID;" % (
+        sort, ", ".join(columns))
 
 
-def take_again(shell: Shell, folder: str) -> Cost:
-    """Imports the files of a release, of which what is known is passed over."""
-    lines = [".mode tabs", "PRAGMA temp_store = MEMORY;", "BEGIN;"]
-    for kind, path in rf2.files_of(folder, TABLES):
-        table, columns = TABLES[kind], ", ".join(COLUMNS[kind])
-        lines += ["CREATE TABLE temp.staged_%s (%s);" % (table, columns),
-                  '.import --skip 1 --schema temp "%s" staged_%s' % (path, table),
-                  "INSERT OR IGNORE INTO %s SELECT %s FROM temp.staged_%s;"
-                  % (table, columns, table)]
-    return shell.run([*lines, "COMMIT;"])[1]
+# ---- The shell's queries for lines of the protocol
+
+REACHED = ("WITH RECURSIVE met (id) AS (SELECT x.{1} FROM R x WHERE x.{0} = {{name}} AND {2}"
+           " UNION SELECT x.{1} FROM met JOIN R x ON x.{0} = met.id WHERE {2})"
+           " SELECT id FROM met ORDER BY id;")
+IS_A_LINK = "x.active = 1 AND x.typeId = %d{latest[R]}" % IS_A
+ASSOCIATED = ("SELECT x.* FROM A x WHERE x.active = 1 AND x.{0} = {{name}}{{latest[A]}}"
+              " ORDER BY x.refsetId, x.{1}, x.id;")
+REFERENCED, TARGET = "referencedComponentId", "targetComponentId"
+# Each next date is looked up in the index of its table, which SQLite doesn't do by itself.
+DATES_OF = ("SELECT day FROM (WITH RECURSIVE met (day) AS (SELECT min(effectiveTime) FROM {0}"
+            " UNION ALL SELECT (SELECT min(effectiveTime) FROM {0} WHERE effectiveTime > day)"
+            " FROM met WHERE day NOT NULL) SELECT day FROM met WHERE day NOT NULL)")
+# By the better of the shell's two ways: the index on dates for few rows, and for many, which a plus
+# tells it, the order of the table.
+DELTA, LONG_DELTA = ("SELECT x.* FROM {kind} x WHERE %sx.effectiveTime > {begin} AND x.id > {after}"
+                     "{latest[%s]} ORDER BY x.id LIMIT {limit};" % way
+                     for way in (("", "its"), ("+", "plus")))
+# Of each command its words, and the query. `latest` is what holds of the latest version of a row of
+# some table up to the date.
+QUERIES = {
+    "GET": ("kind name date", "SELECT x.* FROM {kind} x WHERE {named} AND x.effectiveTime <= {date}"
+            " ORDER BY x.effectiveTime DESC LIMIT 1;"),
+    "HISTORY": ("kind name", "SELECT x.* FROM {kind} x WHERE {named} ORDER BY x.effectiveTime;"),
+    "ABOUT": ("kind name date", "SELECT x.* FROM {kind} x WHERE x.active = 1 AND x.{subject} ="
+              " {name}{latest[its]} ORDER BY x.id;"),
+    "PAGE": ("kind date after limit",
+             "SELECT x.* FROM {kind} x WHERE x.id > {after}{latest[its]} ORDER BY x.id LIMIT {limit};"),
+    "TERMS": ("date limit prefix", "SELECT x.* FROM D x WHERE x.active = 1 AND x.term LIKE"
+              " '{prefix}%'{latest[D]} ORDER BY x.id LIMIT {limit};"),
+    "CHILDREN": ("name date", "SELECT DISTINCT x.sourceId FROM R x WHERE x.destinationId = {name}"
+                 " AND " + IS_A_LINK + " ORDER BY x.sourceId;"),
+    "DELTA": ("kind begin date after limit", DELTA),
+    "TIMELINE": ("kind name", "SELECT x.* FROM {kind} x WHERE id IN (SELECT id FROM {kind} WHERE"
+                 " active = 1 AND {subject} = {name}) ORDER BY id, effectiveTime;"),
+    "REPLACED": ("name date", ASSOCIATED.format(REFERENCED, TARGET)),
+    "REPLACES": ("name date", ASSOCIATED.format(TARGET, REFERENCED)),
+    "ANCESTORS": ("name date", REACHED.format("sourceId", "destinationId", IS_A_LINK)),
+    "DESCENDANTS": ("name date", REACHED.format("destinationId", "sourceId", IS_A_LINK)),
+    "DATES": ("", " UNION ".join(map(DATES_OF.format, BASIC)) + " ORDER BY day;")}
 
 
-def selected(kind: str, where: str, behind: str = "") -> str:
-    """The query for the rows of a kind of which something holds."""
-    return "SELECT %s FROM %s x WHERE %s%s;" % (
-        ", ".join(COLUMNS[kind]), TABLES[kind], where, behind)
-
-
-def newest(kind: str, date: str) -> str:
+def newest(sort: str, date: str, row: str = "x") -> str:
     """What holds of the latest version up to a date."""
-    return NEWEST.format(date=date, table=TABLES[kind])
-
-
-def named(kind: str, name: str) -> str:
-    return "x.id = " + (repr(name) if kind == "A" else name)
+    return NEWEST.format(row, date, sort)
 
 
 def query_of(line: str) -> str:
-    """The query of a line of the protocol."""
-    _, command, *words = line.split(" ")
-    return QUERIES[command](*words)
-
-
-def get_query(kind: str, name: str, date: str) -> str:
-    return selected(kind, named(kind, name) + " AND time <= " + date, " ORDER BY time DESC LIMIT 1")
-
-
-def history_query(kind: str, name: str) -> str:
-    return selected(kind, named(kind, name), " ORDER BY time")
-
-
-def about_query(kind: str, concept: str, date: str) -> str:
-    where = "x.active = 1 AND x.%s = %s%s" % (SUBJECTS[kind], concept, newest(kind, date))
-    return selected(kind, where, " ORDER BY x.id")
-
-
-def page_query(kind: str, date: str, after: str, limit: str) -> str:
-    where = "x.id > %s%s" % (after, newest(kind, date))
-    return selected(kind, where, " ORDER BY x.id LIMIT " + limit)
-
-
-def terms_query(date: str, limit: str, *prefix: str) -> str:
-    like = " ".join(prefix).replace("'", "''")
-    where = "x.active = 1 AND x.term LIKE '%s%%'%s" % (like, newest("D", date))
-    return selected("D", where, " ORDER BY x.id LIMIT " + limit)
-
-
-def children_query(concept: str, date: str) -> str:
-    return ("SELECT DISTINCT x.source FROM relationship x WHERE x.active = 1 AND x.type = %d"
-            " AND x.destination = %s%s ORDER BY x.source;" % (IS_A, concept, newest("R", date)))
-
-
-def associations_query(column: str, order: str, component: str, date: str) -> str:
-    where = "x.active = 1 AND x.%s = %s%s" % (column, component, newest("A", date))
-    return selected("A", where, " ORDER BY x.refset, x.%s, x.id" % order)
-
-
-def delta_query(kind: str, begin: str, date: str, after: str, limit: str) -> str:
-    """By the better of the shell's two ways: the index on dates for few rows, and for many, which
-    a plus tells it, the order of the table."""
-    time, latest = "x.time", newest(kind, date)
-    if int(date) - int(begin) > 2 * YEAR:
-        time, latest = "+x.time", latest.replace("x.time <=", "+x.time <=", 1)
-    where = "%s > %s AND x.id > %s%s" % (time, begin, after, latest)
-    return selected(kind, where, " ORDER BY x.id LIMIT " + limit)
-
-
-def timeline_query(kind: str, concept: str) -> str:
-    ever = "SELECT id FROM %s WHERE active = 1 AND %s = %s" % (
-        TABLES[kind], SUBJECTS[kind], concept)
-    return selected(kind, "id IN (%s)" % ever, " ORDER BY id, time")
-
-
-def reach_query(here: str, there: str, concept: str, date: str) -> str:
-    """What is reached from a concept, from one column of a relationship to the other."""
-    is_a = "x.active = 1 AND x.type = %d%s" % (IS_A, newest("R", date))
-    return ("WITH RECURSIVE met (id) AS (SELECT x.{1} FROM relationship x WHERE x.{0} = {2} AND {3}"
-            " UNION SELECT x.{1} FROM met JOIN relationship x ON x.{0} = met.id WHERE {3})"
-            " SELECT id FROM met ORDER BY id;").format(here, there, concept, is_a)
-
-
-def dates_query() -> str:
-    """Each next date is looked up in the index of its table, which SQLite doesn't do by itself."""
-    steps = ["SELECT day FROM (WITH RECURSIVE met (day) AS (SELECT min(time) FROM {0}"
-             " UNION ALL SELECT (SELECT min(time) FROM {0} WHERE time > day) FROM met"
-             " WHERE day NOT NULL)"
-             " SELECT day FROM met WHERE day NOT NULL)".format(table) for table in TABLES.values()]
-    return " UNION ".join(steps) + " ORDER BY day;"
-
-
-QUERIES: dict[str, Callable[..., str]] = {
-    "GET": get_query, "HISTORY": history_query, "ABOUT": about_query, "PAGE": page_query,
-    "TERMS": terms_query, "CHILDREN": children_query, "DELTA": delta_query,
-    "TIMELINE": timeline_query, "REPLACED": partial(associations_query, "referenced", "target"),
-    "REPLACES": partial(associations_query, "target", "referenced"),
-    "ANCESTORS": partial(reach_query, "source", "destination"),
-    "DESCENDANTS": partial(reach_query, "destination", "source"), "DATES": dates_query,
-}
+    """The query of a line of the protocol, in which a kind may be any sort of files."""
+    command, *given = line.split(" ")
+    names, query = QUERIES[command]
+    count = len(names.split())
+    words = dict(zip(names.split(), [*given[: count - 1], " ".join(given[count - 1 :])]))
+    kind, date = words.get("kind", "C"), words.get("date", "")
+    latest = {table: newest(table, date) for table in BASIC} | {"its": newest(kind, date)}
+    latest["plus"] = latest["its"].replace("x.effectiveTime <=", "+x.effectiveTime <=", 1)
+    if command == "DELTA" and int(date) - int(words["begin"]) > 2 * YEAR:
+        query = LONG_DELTA
+    if command == "TERMS":
+        words["prefix"] = words["prefix"].replace("'", "''")
+    name = words.get("name", "")
+    named = "x.id = " + (repr(name) if KEPT_SORTS[kind].kind in "AM" else name)
+    return query.format(**words, named=named, latest=latest, subject=SUBJECTS.get(kind))
 
 
 def is_plain(term: str) -> bool:
@@ -261,74 +242,31 @@ class Questions:
 
     def __init__(self, rows: Rows, chance: random.Random) -> None:
         self.rows, self.chance = rows, chance
+        words = (row[7].split(" ")[0] for row in rows["D"])
+        self.words = [word for word in words if is_plain(word)]
 
-    def date(self) -> str:
-        return self.chance.choice(DAYS)
+    def __getitem__(self, name: str) -> str:
+        """What stands for a name in a form."""
+        if name == "date":
+            return self.chance.choice(DAYS)
+        if name == "word":
+            return self.chance.choice(self.words).upper()
+        if name == "any":
+            kind = self.chance.choice("CDVRA")
+            return "%s %s" % (kind, self[kind + "0"])
+        return self.chance.choice(self.rows[name[0]])[int(name[1:])]
 
-    def column(self, kind: str, place: int) -> str:
-        return self.chance.choice(self.rows[kind])[place]
-
-    def of_any_kind(self, word: str) -> str:
-        kind = self.chance.choice("CDVRA")
-        return "%s %s %s" % (word, kind, self.column(kind, 0))
+    def of(self, forms: Forms) -> Iterator[Asked]:
+        for title, count, texts in forms:
+            yield title, [texts[number % len(texts)].format_map(self) for number in range(count)]
 
     def of_each_kind(self) -> Iterator[Asked]:
         """The questions that are asked as of the first import, too."""
-        yield "10,000 rows of any kind", [
-            "%s %s" % (self.of_any_kind("GET"), self.date()) for _ in range(10000)]
-        yield "10,000 histories", [self.of_any_kind("HISTORY") for _ in range(10000)]
-        for word, kind, place in (("CHILDREN", "R", 5), ("REPLACED", "A", 5), ("ABOUT D", "D", 4),
-                                  ("ABOUT R", "R", 4)):
-            yield "1,000 times %s" % word, ["%s %s %s" % (word, self.column(kind, place),
-                                                          self.date()) for _ in range(1000)]
-        yield "1,000 pages of 100", ["PAGE C %s %s 100" % (self.date(), self.column("C", 0))
-                                     for _ in range(1000)]
-        terms = filter(is_plain, (self.column("D", 7) for _ in range(1000)))
+        yield from self.of(FIRST)
+        terms = filter(is_plain, (self["D7"] for _ in range(1000)))
         yield "searches of two or three words", [
-            "TERMS %s 10 %s" % (self.date(), " ".join(term.split(" ")[:number % 2 + 2]).upper())
+            "TERMS %s 10 %s" % (self["date"], " ".join(term.split(" ")[:number % 2 + 2]).upper())
             for number, term in enumerate(terms)]
-
-    def questions(self) -> Iterator[Asked]:
-        """Lists of lines, each with its title."""
-        yield from ((title, ["0 " + line for line in lines])
-                    for title, lines in self.of_each_kind())
-        for kind, title in (("C", "100,000 concepts"), ("D", "100,000 descriptions")):
-            yield title, ["0 GET %s %s %s" % (kind, self.column(kind, 0), self.date())
-                          for _ in range(100000)]
-        yield "1,000 pages of 1,000", ["0 PAGE C %s %s 1000" % (self.date(), self.column("C", 0))
-                                       for _ in range(1000)]
-        terms = [row[7].split(" ")[0] for row in self.rows["D"]]
-        terms = [term for term in terms if is_plain(term)]
-        yield "100 searches, limit 1,000", [
-            "0 TERMS %s 1000 %s" % (self.date(), self.chance.choice(terms).upper())
-            for _ in range(100)]
-        for kind, title in (("D", "the descriptions"), ("R", "the relationships")):
-            yield "%s of 10,000 concepts" % title, [
-                "0 ABOUT %s %s %s" % (kind, self.column(kind, 4), self.date())
-                for _ in range(10000)]
-
-    def audits(self) -> Iterator[Asked]:
-        """The lists of an audit's questions, each with its title."""
-        for first, last, title in (("20250131", "20261231", "of the last releases"),
-                                   ("20120731", "20191231", "of seven years")):
-            yield "1,000 pages of 1,000 %s" % title, [
-                "0 DELTA %s %s %s %s 1000" % (kind, first, last, self.column(kind, 0))
-                for kind in itertools.islice(itertools.cycle("CDR"), 1000)]
-        for kind, title in (("D", "the descriptions"), ("R", "the relationships")):
-            yield "%s that 10,000 concepts ever had" % title, [
-                "0 TIMELINE %s %s" % (kind, self.column(kind, 4)) for _ in range(10000)]
-        yield "what 10,000 components replace", [
-            "0 REPLACES %s %s" % (self.column("A", 6), self.date()) for _ in range(10000)]
-        for word, title in (("ANCESTORS", "above"), ("DESCENDANTS", "below")):
-            yield "all concepts %s 1,000 concepts" % title, [
-                "0 %s %s %s" % (word, self.column("C", 0), self.date()) for _ in range(1000)]
-        yield "the dates, 10,000 times", ["0 DATES"] * 10000
-
-    def tree_questions(self) -> Iterator[Asked]:
-        """What is asked once the concepts are a tree."""
-        yield "all concepts below the root, 10 times", ["0 DESCENDANTS %d 20261231" % rf2.ROOT] * 10
-        yield "all concepts above 10,000 concepts, in a tree", [
-            "0 ANCESTORS %s 20261231" % self.column("C", 0) for _ in range(10000)]
 
 
 def make_tree(place: str) -> None:
@@ -372,6 +310,9 @@ def rows_alone(told: bytes) -> Optional[bytes]:
 class Table:
     """The lines that are printed, and whether all answers were alike."""
 
+    HEAD = ("Rows", "Work", "sctd: wall", "processor", "peak, MB", "SQLite's shell: wall",
+            "processor", "peak, MB", "processor, SQLite / sctd")
+
     def __init__(self, rows: int) -> None:
         self.rows, self.alike = rows, True
 
@@ -395,8 +336,7 @@ class Table:
             shown += ["%.2f" % cost.wall, "%.2f" % cost.used] if cost else ["", ""]
             shown.append("%d" % (cost.peak // 1000000) if cost and cost.peak else "")
         ratio = "%.1f" % (theirs.used / ours.used) if ours and theirs and ours.used else ""
-        print("| %d | %s | %s | %s |%s" % (self.rows, title, " | ".join(shown), ratio,
-                                           "" if same else " NOT the same"), flush=True)
+        print_row(self.rows, title, *shown, ratio, behind="" if same else " NOT the same")
 
 
 def merged(served: Served, table: Table) -> None:
@@ -416,13 +356,14 @@ def merged(served: Served, table: Table) -> None:
         print("| %d | the longest %s | %.4f | | | | | | |" % (table.rows, name, wall))
 
 
-def ask_both(table: Table, served: Served, shell: Shell, asked: Iterable[Asked]) -> None:
-    """Asks both sides lists of questions, and tells what they cost."""
-    for title, lines in asked:
-        told, ours = served.timed(lines)
-        answered, theirs = shell.asked([query_of(line) for line in lines])
-        theirs.peak = None
-        table.show(title, ours, theirs, rows_alone(told) == answered)
+def ask(table: Table, served: Served, shell: Shell, title: str, lines: Sequence[str],
+        queries: Iterable[str] = (), rows_in: Callable[[bytes], Optional[bytes]] = rows_alone
+        ) -> None:
+    """Asks both sides the same, and tells what that cost."""
+    told, ours = served.timed(["0 " + line for line in lines])
+    answered, theirs = shell.asked(queries or map(query_of, lines))
+    theirs.peak = None
+    table.show(title.format(answered.count(b"\n")), ours, theirs, rows_in(told) == answered)
 
 
 def ask_in_a_tree(table: Table, sctd: Sctd, shell: Shell, asked: Iterable[Asked]) -> None:
@@ -430,78 +371,64 @@ def ask_in_a_tree(table: Table, sctd: Sctd, shell: Shell, asked: Iterable[Asked]
     if not os.path.isdir(os.path.join(sctd.place, "tree")):
         make_tree(sctd.place)
     ours = sctd.take("tree")[1]
-    theirs = shell.take(tables_and_files(os.path.join(sctd.place, "tree")))
-    table.show("import other parents of each concept", ours, theirs)
+    table.show("import other parents of each concept", ours, shell.take("tree"))
     served = sctd.served()
-    ask_both(table, served, shell, asked)
+    for title, lines in asked:
+        ask(table, served, shell, title, lines)
     served.end()
 
 
-def import_full(table: Table, sctd: Sctd, shell: Shell) -> dict[int, bytes]:
-    """Lets both sides import the Full release, and that once more: the replies."""
-    full = os.path.join(sctd.place, "full")
-    told: dict[int, bytes] = {}
-    told[1], ours = sctd.take("full")
-    theirs = shell.take(tables_and_files(full), INDEXES)
-    table.show("import the Full release, with its indexes", ours, theirs)
-    told[2], ours = sctd.take("full")
-    table.show("import it over itself", ours, take_again(shell, full))
+def import_full(table: Table, sctd: Sctd, shell: Shell, indexes: Sequence[str] = INDEXES) -> bytes:
+    """Lets both sides import the Full release: sctd's reply."""
+    told, ours = sctd.take("full")
+    table.show("import the Full release, with its indexes", ours, shell.take("full", indexes))
     return told
 
 
-def import_delta(table: Table, sctd: Sctd, shell: Shell) -> bytes:
+def import_delta(table: Table, sctd: Sctd, shell: Shell, has_peak: bool = False) -> bytes:
     """The same of the Delta."""
     told, ours = sctd.take("delta")
-    theirs = shell.take(tables_and_files(os.path.join(sctd.place, "delta")))
-    ours.peak = theirs.peak = None
+    theirs = shell.take("delta")
+    if not has_peak:
+        ours.peak = theirs.peak = None
     table.show("import a Delta of 100 rows", ours, theirs)
     return told
-
-
-def ask_of_the_first(table: Table, served: Served, before: Iterable[tuple[Asked, bytes]]) -> None:
-    """Asks what the shell was asked before the Delta, as of the first import."""
-    for (title, lines), answered in before:
-        told, ours = served.timed(["0 AT 1 " + line for line in lines])
-        table.show("%s, as of the first import" % title, ours, None, rows_alone(told) == answered)
 
 
 def compare(program: str, folder: str, count: int) -> bool:
     """Whether all replies and answers were the same."""
     place = os.path.join(folder, str(count))
     made_release(place, count)
-    table, sctd = Table(count), Sctd(program, place)
-    shell = Shell(place, SHELL, map(table_of, TABLES))
-    told = import_full(table, sctd, shell)
+    table, sctd, shell = Table(count), Sctd(program, place), Shell(place, SHELL, BASIC)
+    told = {1: import_full(table, sctd, shell)}
+    told[2], ours = sctd.take("full")
+    table.show("import it over itself", ours, shell.take_again("full"))
     chance = random.Random(SEED)
     of_full, rows = draw_rows(os.path.join(place, "full"), chance)
     of_delta, _ = draw_rows(os.path.join(place, "delta"), chance)
     drawn = Questions(rows, chance)
-    before = [(one, shell.asked(query_of("0 " + line) for line in one[1])[0])
-              for one in drawn.of_each_kind()]
+    before = [(*asked, shell.asked(map(query_of, asked[1]))[0]) for asked in drawn.of_each_kind()]
     told[3] = import_delta(table, sctd, shell)
     table.check_imports(told, of_full, of_delta)
     served = sctd.served()
     table.show("open", served.opening, None)
     shell.kept = served.held()
-    ask_of_the_first(table, served, before)
-    ask_both(table, served, shell, drawn.questions())
+    # What the shell was asked before the Delta.
+    for title, lines, answered in before:
+        said, ours = served.timed(["0 AT 1 " + line for line in lines])
+        table.show(title + ", as of the first import", ours, None, rows_alone(said) == answered)
+    for title, lines in (*drawn.of_each_kind(), *drawn.of(FURTHER)):
+        ask(table, served, shell, title, lines)
     table.show("the shell's indexes for an audit", None, shell.run(AUDIT_INDEXES)[1])
-    ask_both(table, served, shell, drawn.audits())
+    for title, lines in drawn.of(AUDITS):
+        ask(table, served, shell, title, lines)
     merged(served, table)
     served.end()
-    ask_in_a_tree(table, sctd, shell, drawn.tree_questions())
+    ask_in_a_tree(table, sctd, shell, drawn.of(IN_A_TREE))
     sizes = os.path.getsize(sctd.path), os.path.getsize(shell.path)
     print("bytes of the files: sctd %d, SQLite %d" % sizes)
     return table.alike
 
 
-def main() -> int:
-    asked = asked_for(__doc__, (ROWS,))
-    if len(asked.rows) > 1:
-        return by_itself(__file__, asked)
-    print(HEAD)
-    return 0 if compare(asked.program, asked.folder, asked.rows[0]) else 1
-
-
 if __name__ == "__main__":
-    sys.exit(main())
+    sys.exit(compared_by(__file__, __doc__, Table.HEAD, compare))

@@ -13,7 +13,6 @@ bytes. Seeds from 1 to 7 give releases that share no component.
 import argparse
 import os
 import random
-import sys
 import uuid
 from pathlib import Path
 from typing import Callable, Iterable, Iterator, Mapping, NamedTuple, Optional, Sequence
@@ -309,8 +308,7 @@ MEMBER_BODIES: dict[str, Callable[[Edition], Columns]] = {
     "MRCMAttributeDomain": attribute_domain_body,
     "MRCMAttributeRange": attribute_range_body,
     "MRCMModuleScope": lambda edition: [
-        SCOPES, CORE, edition.random.choice([DOMAINS, ATTRIBUTE_DOMAINS, ATTRIBUTE_RANGES])],
-}
+        SCOPES, CORE, edition.random.choice([DOMAINS, ATTRIBUTE_DOMAINS, ATTRIBUTE_RANGES])]}
 
 
 class Package(Edition):
@@ -471,29 +469,37 @@ def write_package(folder: str, package: Package, count: int) -> dict[str, int]:
     return counts
 
 
-def main(words: Sequence[str]) -> int:
+class Made(NamedTuple):
+    """A Full release and a Delta to it, and how many rows they have."""
+
+    full: Path
+    delta: Path
+    told: str
+
+
+def make(folder: str | Path, rows: int, seed: int = 1, is_package: bool = False) -> Made:
+    """Makes both in a folder, as the text at the top says."""
+    to_full, to_delta = Path(folder, "full"), Path(folder, "delta")
+    if is_package:
+        package = Package(seed)
+        counts = write_package(str(to_full), package, rows)
+        new = delta(package, PACKAGE_DELTA_SORTS)
+    else:
+        edition = Edition(seed)
+        made = full(edition, rows)
+        write(str(to_full), "Full", FULL_DATE, made)
+        counts = {kind: len(made[kind]) for kind in KINDS}
+        new = delta(edition)
+    write(str(to_delta), "Delta", DELTA_DATE, new)
+    told = " ".join("%s %d" % (sort, counts[sort]) for sort in counts)
+    return Made(to_full, to_delta, "full: %s; delta: %d rows" % (told, sum(map(len, new.values()))))
+
+
+if __name__ == "__main__":
     parser = argparse.ArgumentParser(description=(__doc__ or "").partition("\n")[0])
     parser.add_argument("--package", action="store_true", help="all sorts of files")
     parser.add_argument("folder")
     parser.add_argument("rows", type=int)
     parser.add_argument("seed", type=int, nargs="?", default=1)
-    asked = parser.parse_args(words)
-    to_full, to_delta = (os.path.join(asked.folder, name) for name in ("full", "delta"))
-    if asked.package:
-        package = Package(asked.seed)
-        counts = write_package(to_full, package, asked.rows)
-        new = delta(package, PACKAGE_DELTA_SORTS)
-    else:
-        edition = Edition(asked.seed)
-        rows = full(edition, asked.rows)
-        write(to_full, "Full", FULL_DATE, rows)
-        counts = {kind: len(rows[kind]) for kind in KINDS}
-        new = delta(edition)
-    write(to_delta, "Delta", DELTA_DATE, new)
-    told = " ".join("%s %d" % (sort, counts[sort]) for sort in counts)
-    print("full: %s; delta: %d rows" % (told, sum(map(len, new.values()))))
-    return 0
-
-
-if __name__ == "__main__":
-    sys.exit(main(sys.argv[1:]))
+    asked = parser.parse_args()
+    print(make(asked.folder, asked.rows, asked.seed, asked.package).told)

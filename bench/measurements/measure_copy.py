@@ -13,7 +13,8 @@ import sys
 from collections.abc import Sequence
 from pathlib import Path
 
-from measure_harness import MANY_ROWS, ROWS, Cost, Sctd, asked_for, least, made_release, timed
+from measure_harness import MANY_ROWS, ROWS, Cost, Sctd, asked_for, least, made_release
+from measure_harness import print_head, print_row, timed
 
 DIGEST = Path(__file__).resolve().parents[2] / "examples" / "digest.py"
 TIMES = 5
@@ -21,8 +22,6 @@ LAYOUTS = (2, 3)
 MANY_SEGMENTS = 128
 SEED = 7
 MILLION = 1_000_000
-HEAD = ("Rows", "Store", "Work", "Processor seconds", "Wall seconds",
-        "Processor seconds a million rows", "Peak bytes a row")
 
 
 class Measured:
@@ -36,9 +35,9 @@ class Measured:
 
     def row(self, what: str, work: str, cost: Cost) -> None:
         """Prints a row of the table."""
-        million, peak = cost.used * MILLION / self.rows, (cost.peak or 0) // self.rows
-        print("| %d | %s | %s | %.2f | %.2f | %.2f | %d |" % (
-            self.rows, what, work, cost.used, cost.wall, million, peak), flush=True)
+        seconds = (cost.used, cost.wall, cost.used * MILLION / self.rows)
+        print_row(self.rows, what, work, *map("%.2f".__mod__, seconds),
+                  (cost.peak or 0) // self.rows)
 
     def store(self, layout: int, names: Sequence[str]) -> Path:
         """A store into which the releases of these names were imported."""
@@ -68,11 +67,9 @@ class Measured:
     def measure(self, what: str, layout: int, names: Sequence[str], digest: str) -> None:
         """Prints what is done with a store of a layout, and some releases."""
         store, copy = self.store(layout, names), self.place / "copy"
-        works = {
-            "open": ["status", "--store", str(store)],
-            "copy": ["copy", "--store", str(store), "--to", str(copy)],
-            "digest": ["digest", "--store", str(store)],
-        }
+        works = {"open": ["status", "--store", str(store)],
+                 "copy": ["copy", "--store", str(store), "--to", str(copy)],
+                 "digest": ["digest", "--store", str(store)]}
         costs: dict[str, list[Cost]] = {work: [] for work in works}
         for _ in range(TIMES):
             for work, words in works.items():
@@ -87,7 +84,8 @@ class Measured:
 
 def main() -> int:
     asked = asked_for(__doc__, (ROWS, MANY_ROWS), needs_time=True)
-    print("| %s |\n|%s" % (" | ".join(HEAD), "---|" * len(HEAD)))
+    print_head("Rows", "Store", "Work", "Processor seconds", "Wall seconds",
+               "Processor seconds a million rows", "Peak bytes a row")
     for rows in asked.rows:
         measured = Measured(asked.program, asked.folder, rows)
         by_script = timed([sys.executable, str(DIGEST), str(measured.release)])

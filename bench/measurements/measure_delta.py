@@ -13,8 +13,8 @@ import sys
 import time
 from collections.abc import Sequence
 
-from measure_harness import (
-    MANY_ROWS, ROWS, Sctd, Served, asked_for, made_release, processor_seconds)
+from measure_harness import (MANY_ROWS, ROWS, Sctd, Served, asked_for, made_release, print_head,
+                             print_row, processor_seconds)
 
 TRIES = 10
 
@@ -40,15 +40,15 @@ def shown(numbers: Sequence[float]) -> str:
 
 def main() -> int:
     asked = asked_for(__doc__, (ROWS, MANY_ROWS))
-    print("| Rows | Milliseconds of processor, least and most"
-          " | Milliseconds of wall, least and most |\n|---|---|---|")
+    print_head("Rows", "Milliseconds of processor, least and most",
+               "Milliseconds of wall, least and most")
     for rows in asked.rows:
         place = os.path.join(asked.folder, str(rows))
         made_release(place, rows)
         sctd = Sctd(asked.program, place, "served.store", layout=3)
         assert sctd.take("full")[0].startswith(b"OK 1 ")
         walls, busies = zip(*(delta(sctd) for _ in range(TRIES)))
-        print("| %d | %s | %s |" % (rows, shown(busies), shown(walls)), flush=True)
+        print_row(rows, shown(busies), shown(walls))
         os.remove(sctd.path)
     return 0
 

@@ -16,14 +16,17 @@ import time
 from collections.abc import Callable, Mapping, Sequence
 from functools import partial
 from pathlib import Path
+from string import Template
 from typing import NamedTuple, Self
 from urllib.parse import urlencode
 
 import make_release as rf2
 from measure_gateway import (
     HUB, MS, UnixHttp, begin_gateway, begin_hub, concepts, make_store, options_of)
-from measure_harness import MANY_ROWS, child_of, made_release, processor_seconds
-from proxy_harness import NOT_RUN, Process, missing, stop  # measure_gateway.py looks for it.
+from measure_harness import MANY_ROWS, child_of, made_release, print_head, print_row
+from measure_harness import processor_seconds
+from harness import tell
+from proxy_harness import Process, need, stop  # measure_gateway.py looks for it.
 
 SCT = "http://snomed.info/sct"
 DAYS = 7
@@ -39,8 +42,6 @@ EXPRESSIONS = (
     "(<< $X OR << $V) : $a = << $Y", "<< $X : { $a = << $Y }", "<< $X : { $a = << $Y , $b = * }",
     "<< $X : $a = *", "<< $W . $a", "<< $Y : R $a = << $X", "* : R $a = << $W",
     "<< $W {{ + HISTORY-MOD }}", "<< $W {{ C definitionStatus = defined }}")
-HEAD = """| Expression | Concepts | processor ms: all; gateway / hub / program | by the wall, ms |
-|---|---|---|---|"""
 
 
 class Taken(NamedTuple):
@@ -113,19 +114,13 @@ def add_attributes(folder: Path) -> None:
             file.write(rf2.line(attribute, rf2.DATES[0], 1) + "\r\n")
 
 
-def with_words(expression: str, words: Mapping[str, str]) -> str:
-    for name, code in words.items():
-        expression = expression.replace("$" + name, code)
-    return expression
-
-
-def row_of(name: str, found: Sequence[Taken]) -> str:
-    """A row of the table, with the medians."""
+def show(name: str, found: Sequence[Taken]) -> None:
+    """Prints a row of the table, with the medians."""
     used = [statistics.median(times) * MS for times in zip(*(one.used for one in found))]
     every = statistics.median(sum(one.used) for one in found) * MS
     wall = statistics.median(one.wall for one in found) * MS
     parts = " / ".join("%.1f" % one for one in used)
-    return "| `%s` | %s | %.1f; %s | %.0f |" % (name, found[-1].total, every, parts, wall)
+    print_row("`%s`" % name, found[-1].total, "%.1f; %s" % (every, parts), "%.0f" % wall)
 
 
 def measured(begin: Callable[[], Asked], codes: Sequence[str], dates: Sequence[str]) -> None:
@@ -133,21 +128,18 @@ def measured(begin: Callable[[], Asked], codes: Sequence[str], dates: Sequence[s
         words = chosen(asked, codes, dates[-1])
         below = asked.size("<< " + words["Y"], dates[-1])
     print("%d concepts, %s of them below Y and Y itself" % (len(codes), below))
-    print(HEAD)
+    print_head("Expression", "Concepts", "processor ms: all; gateway / hub / program",
+               "by the wall, ms")
     for expression in EXPRESSIONS:
-        text = with_words(expression, words)
+        text = Template(expression).substitute(words)
         with begin() as asked:
-            print(row_of(expression, [asked.taken(text, day) for day in dates]), flush=True)
+            show(expression, [asked.taken(text, day) for day in dates])
             if expression == EXPRESSIONS[-1]:
-                print(row_of("the same again", [asked.taken(text, day) for day in dates]))
+                show("the same again", [asked.taken(text, day) for day in dates])
 
 
-def main() -> int:
-    options = options_of(__doc__, rows=MANY_ROWS, days=DAYS).parse_args()
-    options.package, options.hub = True, HUB
-    if (lacks := missing(())) is not None:
-        print("not run: there is no %s" % lacks)
-        return NOT_RUN
+def tried(options: argparse.Namespace) -> None:
+    need()
     with tempfile.TemporaryDirectory() as folder:
         store, hub_socket = str(Path(folder, "store")), str(Path(folder, "hub"))
         made_release(folder, options.rows, is_package=True)
@@ -161,7 +153,12 @@ def main() -> int:
             measured(partial(Asked, hub, hub_socket, options), codes, dates)
         finally:
             stop(hub)
-    return 0
+
+
+def main() -> int:
+    options = options_of(__doc__, rows=MANY_ROWS, days=DAYS).parse_args()
+    options.package, options.hub = True, HUB
+    return tell(lambda: tried(options))
 
 
 if __name__ == "__main__":

@@ -11,6 +11,7 @@ each concept is expanded page by page on the last day, twice, by one client.
 """
 
 import argparse
+import contextlib
 import functools
 import http.client
 import json
@@ -28,11 +29,12 @@ from multiprocessing.queues import Queue
 from pathlib import Path
 
 import make_release as rf2
-from measure_harness import absolute, child_of, made_release, seconds_used
+from measure_harness import absolute, child_of, made_release, print_head, print_row, seconds_used
 
 sys.path.append(str(Path(__file__).resolve().parents[1] / "trials"))
+from harness import tell  # noqa: E402
 from proxy_harness import (  # noqa: E402
-    EDITION, NOT_RUN, SERVICE, Process, gateway_words, hub_words, missing, open_folder, ready, stop)
+    EDITION, SERVICE, Process, gateway_words, hub_words, need, open_folder, ready, stop)
 
 PROCESSES = 2
 FEW_CODES = 200
@@ -49,8 +51,6 @@ LAST_LINES = (b"OK", b"END", b"ERR")
 # The ends of an HTTP head, and what says how long its body is.
 END_OF_HEAD, LENGTH = b"\r\n\r\n", b"Content-Length: "
 QUESTIONS = ("GET C", "ABOUT D", "ABOUT R", "ABOUT V")
-HEAD = """| Asked | Clients | a second | median ms | processor us: gateway / hub / program |
-|---|---|---|---|---|"""
 
 # What a process of clients puts: how long each answer was waited for, and how many were refused.
 Waits = tuple[list[float], int]
@@ -118,11 +118,15 @@ class SlowHubClient(HubClient):
     questions = 1
 
 
+def request(target: str) -> bytes:
+    head = "GET %s HTTP/1.1\r\nHost: x\r\nAccept: application/fhir+json\r\n\r\n"
+    return (head % target).encode()
+
+
 def lookup(codes: Sequence[str], days: Sequence[str]) -> bytes:
     code, day = random.choice(codes), random.choice(days)
-    target = "/fhir/CodeSystem/$lookup?system=http://snomed.info/sct&code=%s&version=%s%s" % (
-        code, VERSION, day)
-    return b"GET %s HTTP/1.1\r\nHost: x\r\nAccept: application/fhir+json\r\n\r\n" % target.encode()
+    return request("/fhir/CodeSystem/$lookup?system=http://snomed.info/sct&code=%s&version=%s%s" % (
+        code, VERSION, day))
 
 
 def questions(codes: Sequence[str], days: Sequence[str]) -> bytes:
@@ -188,14 +192,8 @@ class Taken:
         self.spent = [one / len(waits) * US for one in used]
         self.refused = " %d refused" % wrong if wrong else ""
 
-
-def measured(name: str, pids: Sequence[int], client: type[Connection], path: str,
-             make: Callable[[], bytes], clients: int, seconds: int) -> None:
-    """Asks for some seconds, and prints a line of the table."""
-    taken = Taken(pids, client, path, make, clients, seconds)
-    spent = " / ".join("%.0f" % one for one in taken.spent)
-    print("| %s | %d | %.0f | %.2f | %s |%s" % (
-        name, clients, taken.rate, taken.median, spent, taken.refused), flush=True)
+    def spent_by_each(self) -> str:
+        return " / ".join("%.0f" % one for one in self.spent)
 
 
 class UnixHttp(http.client.HTTPConnection):
@@ -260,33 +258,39 @@ def begin_gateway(options: argparse.Namespace, hub: str, path: str) -> Process:
     return ready(gateway_words(Path(hub), path, *languages), Path(hub).with_name("log"))
 
 
-def tried(options: argparse.Namespace, folder: str) -> None:
-    store, hub_socket, place = (os.path.join(folder, name) for name in ("store", "hub", "http"))
-    make_store(options, folder, store)
-    codes, days = concepts(folder), ["%d0731" % year for year in YEARS]
-    hub = begin_hub(options, folder, store, hub_socket)
-    gateway = begin_gateway(options, hub_socket, place)
-    try:
+def tried(options: argparse.Namespace) -> None:
+    need()
+    with contextlib.ExitStack() as stack:
+        folder = str(stack.enter_context(open_folder()))
+        store, hub_socket, place = (os.path.join(folder, name) for name in ("store", "hub", "http"))
+        make_store(options, folder, store)
+        codes, days = concepts(folder), ["%d0731" % year for year in YEARS]
+        hub = begin_hub(options, folder, store, hub_socket)
+        stack.callback(stop, hub)
+        gateway = begin_gateway(options, hub_socket, place)
+        stack.callback(stop, gateway)
         below, seconds = [hub.pid, child_of(hub.pid)], options.seconds
         every = [gateway.pid, *below]
-        any_code = functools.partial(lookup, codes, days)
-        print(HEAD)
-        if not options.raw_only:
-            few = random.Random(1).sample(codes, min(FEW_CODES, len(codes)))
-            one_day = functools.partial(lookup, few, days[-1:])
-            measured("$lookup", every, HttpClient, place, any_code, 1, seconds)
-            measured("$lookup", every, HttpClient, place, any_code, 16, seconds)
-            measured("$lookup, remembered", every, HttpClient, place, one_day, 16, seconds)
-        one, four = (functools.partial(make, codes, days) for make in (question, questions))
-        measured("the hub, one question", below, SlowHubClient, hub_socket, one, 8, seconds)
-        measured("the hub, four at once", below, HubClient, hub_socket, four, 8, seconds)
+        any_code, one, four = (
+            functools.partial(make, codes, days) for make in (lookup, question, questions))
+        few = random.Random(1).sample(codes, min(FEW_CODES, len(codes)))
+        one_day = functools.partial(lookup, few, days[-1:])
+        print_head("Asked", "Clients", "a second", "median ms",
+                   "processor us: gateway / hub / program")
+        for name, pids, client, path, make, clients in (
+                ("$lookup", every, HttpClient, place, any_code, 1),
+                ("$lookup", every, HttpClient, place, any_code, 16),
+                ("$lookup, remembered", every, HttpClient, place, one_day, 16),
+                ("the hub, one question", below, SlowHubClient, hub_socket, one, 8),
+                ("the hub, four at once", below, HubClient, hub_socket, four, 8)):
+            if pids is below or not options.raw_only:
+                taken = Taken(pids, client, path, make, clients, seconds)
+                print_row(name, clients, "%.0f" % taken.rate, "%.2f" % taken.median,
+                          taken.spent_by_each(), behind=taken.refused)
         if options.package and not options.raw_only:
             # (The second time the codes are remembered.)
             for _ in range(2):
                 expanded(place, days[-1])
-    finally:
-        stop(gateway)
-        stop(hub)
 
 
 def options_of(doc: str | None, **numbers: int) -> argparse.ArgumentParser:
@@ -305,12 +309,7 @@ def main() -> int:
     for name in ("--raw-only", "--package"):
         words.add_argument(name, action="store_true")
     options = words.parse_args()
-    if (lacks := missing(())) is not None:
-        print("not run: there is no %s" % lacks)
-        return NOT_RUN
-    with open_folder() as folder:
-        tried(options, str(folder))
-    return 0
+    return tell(lambda: tried(options))
 
 
 if __name__ == "__main__":

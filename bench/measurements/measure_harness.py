@@ -9,7 +9,7 @@ import sys
 import tempfile
 import threading
 import time
-from collections.abc import Sequence
+from collections.abc import Callable, Sequence
 from dataclasses import dataclass
 from pathlib import Path
 from typing import Optional
@@ -67,11 +67,26 @@ def made_release(place: str, rows: int, seed: int = 1, is_package: bool = False)
         subprocess.run([sys.executable, MAKER, *words], stdout=subprocess.DEVNULL, check=True)
 
 
-def by_itself(script: str, asked: argparse.Namespace) -> int:
-    """Runs a script once for each number of rows, so that a peak is that of one; the worst
-    status."""
-    words = [sys.executable, os.path.abspath(script), asked.program, asked.folder]
-    return max(subprocess.call([*words, str(rows)]) for rows in asked.rows)
+def compared_by(script: str, doc: str | None, head: Sequence[str],
+                compare: Callable[[str, str, int], bool]) -> int:
+    """Compares releases of so many rows, as the words of a script say, each in a process of its
+    own, so that a peak is that of one; the worst status."""
+    asked = asked_for(doc, (ROWS,))
+    if len(asked.rows) > 1:
+        words = [sys.executable, os.path.abspath(script), asked.program, asked.folder]
+        return max(subprocess.call([*words, str(rows)]) for rows in asked.rows)
+    print_head(*head)
+    return 0 if compare(asked.program, asked.folder, asked.rows[0]) else 1
+
+
+def print_row(*cells: object, behind: str = "") -> None:
+    """Prints a row of a table, and something behind it."""
+    print("| %s |%s" % (" | ".join(map(str, cells)), behind), flush=True)
+
+
+def print_head(*columns: str) -> None:
+    print_row(*columns)
+    print("|" + "---|" * len(columns), flush=True)
 
 
 def ran(words: Sequence[str], given: bytes, place: str) -> tuple[bytes, Cost]:
@@ -153,9 +168,8 @@ class Served:
 
     def __init__(self, program: str, path: str, releases: str) -> None:
         start = time.monotonic()
-        self.child = subprocess.Popen(
-            [program, "serve", "--store", path, "--releases", releases],
-            stdin=subprocess.PIPE, stdout=subprocess.PIPE)
+        self.child = subprocess.Popen([program, "serve", "--store", path, "--releases", releases],
+                                      stdin=subprocess.PIPE, stdout=subprocess.PIPE)
         assert self.child.stdin and self.child.stdout
         self.input, self.output, self.pid = self.child.stdin, self.child.stdout, self.child.pid
         self.replies(["0 STATUS"])

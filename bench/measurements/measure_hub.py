@@ -10,27 +10,14 @@ import functools
 import os
 import sys
 import tempfile
-from collections.abc import Callable
 
-from measure_gateway import (
-    DEFAULT_ROWS, HUB, YEARS, SlowHubClient, Taken, begin_hub, concepts, make_store, options_of,
-    question)
-from measure_harness import absolute, child_of
+from measure_gateway import (DEFAULT_ROWS, HUB, YEARS, SlowHubClient, Taken, begin_hub, concepts,
+                             make_store, options_of, question)
+from measure_harness import absolute, child_of, print_head, print_row
 from proxy_harness import stop  # measure_gateway.py looks for it.
 
 CLIENTS = (1, 8, 64)
 DEFAULT_SECONDS, DEFAULT_ROUNDS = 3, 2
-HEAD = """| Hub | Clients | a second | median ms | p99 ms | processor us: hub / program |
-|---|---|---|---|---|---|"""
-
-
-def measured(name: str, path: str, pids: list[int], make: Callable[[], bytes], clients: int,
-             seconds: int) -> None:
-    """Prints a line of the table."""
-    taken = Taken(pids, SlowHubClient, path, make, clients, seconds)
-    spent = " / ".join("%.0f" % one for one in taken.spent)
-    print("| %s | %d | %.0f | %.2f | %.2f | %s |"
-          % (name, clients, taken.rate, taken.median, taken.p99, spent), flush=True)
 
 
 def main() -> int:
@@ -42,14 +29,17 @@ def main() -> int:
         store, path = os.path.join(folder, "store"), os.path.join(folder, "hub")
         make_store(options, folder, store)
         make = functools.partial(question, concepts(folder), ["%d0731" % year for year in YEARS])
-        print(HEAD)
+        print_head("Hub", "Clients", "a second", "median ms", "p99 ms",
+                   "processor us: hub / program")
         for clients in CLIENTS:
             for hub in hubs * options.rounds:
                 options.hub = hub
                 process = begin_hub(options, folder, store, path)
                 try:
                     pids = [process.pid, child_of(process.pid)]
-                    measured(hub, path, pids, make, clients, options.seconds)
+                    taken = Taken(pids, SlowHubClient, path, make, clients, options.seconds)
+                    print_row(hub, clients, "%.0f" % taken.rate, "%.2f" % taken.median,
+                              "%.2f" % taken.p99, taken.spent_by_each())
                 finally:
                     stop(process)
     return 0

@@ -32,8 +32,7 @@ WAYS = {
     "none": "without a merge",
     "half": "with half of the rows of a merge taken",
     "steps": "with a step before each group",
-    "pages": "without a merge, with a page before each group",
-}
+    "pages": "without a merge, with a page before each group"}
 
 
 class Taken(NamedTuple):

@@ -99,8 +99,8 @@ class Least:
 
 def main() -> int:
     asked = asked_for(__doc__, ())
-    given: list[int] = list(asked.rows)
-    times, size = given + [DEFAULT_TIMES, DEFAULT_ROWS][len(given) :]
+    given: list[int] = asked.rows
+    times, size = [*given, *(DEFAULT_TIMES, DEFAULT_ROWS)[len(given) :]]
     os.makedirs(asked.folder, exist_ok=True)
     rows = all_rows(COUNTS[-1] * size)
     lines = questions(rows[: COUNTS[0] * size])

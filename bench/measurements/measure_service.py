@@ -21,6 +21,7 @@ processes, and at the end how loaded the machine was. It needs what try_proxy.py
 from __future__ import annotations
 
 import argparse
+import contextlib
 import functools
 import http.client
 import os
@@ -34,12 +35,13 @@ from pathlib import Path
 
 sys.path.append(str(Path(__file__).resolve().parents[1] / "trials"))
 from measure_gateway import (  # noqa: E402
-    MS, VERSION, YEARS, Asked, Connection, HttpClient, SlowHubClient, Taken, concepts,
-    lookup, make_store, options_of, question)
-from measure_harness import child_of  # noqa: E402
+    MS, VERSION, YEARS, Asked, Connection, HttpClient, SlowHubClient, Taken, concepts, lookup,
+    make_store, options_of, question, request)
+from measure_harness import child_of, print_head, print_row  # noqa: E402
+from harness import tell  # noqa: E402
 from proxy_harness import (  # noqa: E402
-    HOST, NOT_RUN, Client, Clients, Process, Proxy, free_ports, gateway_words, hub_words, missing,
-    open_folder, ready, stop)
+    HOST, NGINX, OPENSSL, Client, Clients, Process, Proxy, free_ports, gateway_words, hub_words,
+    need, open_folder, ready, stop)
 
 GATEWAYS, CLIENTS, EXPANDING, RESTARTED = 3, 64, 3, 4
 DEFAULT_ROWS, DEFAULT_SECONDS, DEFAULT_RESTARTS = 440_000, 5, 100
@@ -49,8 +51,6 @@ PAGE = 1_000
 BETWEEN_SECONDS = 0.05
 # How a question for any code on any day is answered.
 ANSWERED = (200, 404)
-HEAD = """| Asked | a second | median ms | p99 ms | processor us |
-|---|---|---|---|---|"""
 
 
 class Tcp(HttpClient):
@@ -83,15 +83,14 @@ class Tls(HttpClient):
 def expansion(day: str) -> bytes:
     """A request for a large page of all concepts, anywhere."""
     target = "/fhir/ValueSet/$expand?url=%s%s?fhir_vs&count=%d&offset=%d&includeDesignations=true"
-    offset = random.randrange(10) * PAGE
-    return b"GET %s HTTP/1.1\r\nHost: x\r\n\r\n" % (target % (VERSION, day, PAGE, offset)).encode()
+    return request(target % (VERSION, day, PAGE, random.randrange(10) * PAGE))
 
 
 class Service:
     """The hub, the gateways and nginx on a store."""
 
     def __init__(self, options: argparse.Namespace, place: Path) -> None:
-        self.options, self.place, self.questions = options, place, place / "questions"
+        self.options, self.log, self.questions = options, place / "log", place / "questions"
         folder = place / "store"
         folder.mkdir()
         make_store(options, str(place), str(folder / "terms"))
@@ -102,10 +101,6 @@ class Service:
         self.hub = ready(hub_words(options.program, folder / "terms", place, *sockets), self.log)
         self.gateways = [self.gateway(number) for number in range(GATEWAYS)]
         self.proxy.start()
-
-    @property
-    def log(self) -> Path:
-        return self.place / "log"
 
     def gateway(self, number: int) -> Process:
         return ready(gateway_words(self.questions, self.addresses[number]), self.log)
@@ -131,8 +126,8 @@ class Service:
         pids = self.processes()
         taken = Taken(list(pids.values()), client, path, make, clients, self.options.seconds)
         spent = ", ".join("%s %.0f" % pair for pair in zip(pids, taken.spent) if pair[1])
-        print("| %s | %.0f | %.1f | %.1f | %s |%s" % (
-            name, taken.rate, taken.median, taken.p99, spent, taken.refused), flush=True)
+        print_row(name, "%.0f" % taken.rate, "%.1f" % taken.median, "%.1f" % taken.p99, spent,
+                  behind=taken.refused)
 
     def beside(self) -> None:
         """A client of one gateway, alone and beside large expansions."""
@@ -156,7 +151,7 @@ class Service:
         print("%d restarts of gateways: %d requests, %d lost, p99 %.0f ms" % (
             self.options.restarts, len(waits), asking.lost, waits[len(waits) * 99 // 100] * MS))
 
-    def end(self) -> None:
+    def close(self) -> None:
         self.proxy.end()
         for one in (*self.gateways, self.hub):
             stop(one)
@@ -183,10 +178,10 @@ class Restarting(Clients):
             self.waits.append(time.perf_counter() - began)
 
 
-def tried(options: argparse.Namespace, place: Path) -> None:
-    service = Service(options, place)
-    try:
-        print(HEAD)
+def tried(options: argparse.Namespace) -> None:
+    need(NGINX.name, OPENSSL)
+    with open_folder() as place, contextlib.closing(Service(options, place)) as service:
+        print_head("Asked", "a second", "median ms", "p99 ms", "processor us")
         one = functools.partial(question, service.codes, service.days)
         service.measured("the hub, %d clients" % CLIENTS, SlowHubClient, str(service.questions),
                          one, CLIENTS)
@@ -195,19 +190,12 @@ def tried(options: argparse.Namespace, place: Path) -> None:
         service.beside()
         service.restarted()
         print("load %.1f on %d processors" % (os.getloadavg()[0], os.cpu_count() or 0))
-    finally:
-        service.end()
 
 
 def main() -> int:
     options = options_of(__doc__, rows=DEFAULT_ROWS, seconds=DEFAULT_SECONDS,
                          restarts=DEFAULT_RESTARTS).parse_args()
-    if (lacks := missing()) is not None:
-        print("not run: there is no %s" % lacks)
-        return NOT_RUN
-    with open_folder() as place:
-        tried(options, place)
-    return 0
+    return tell(lambda: tried(options))
 
 
 if __name__ == "__main__":

@@ -15,7 +15,7 @@ from collections.abc import Iterator
 from edits import EDITS, ENDING, FOLDERS, RECORD, Edit, Misfit
 from edits import all_edits, edits_of, record_of, texts_with
 from grounds import Stale, kit_version, why_stale
-from source import TOP, folder_of
+from source import TOP, folder_of, tell
 
 # Why a line doesn't count.
 FAULTS = [why for why in Stale if why is not Stale.OTHER_KIT]
@@ -66,14 +66,13 @@ def faults_of_record(crate: str, edits: list[Edit]) -> Iterator[str]:
 
 
 def main() -> int:
-    count, wrong, other, unknown = 0, 0, 0, 0
+    count, other, unknown, wrong = 0, 0, 0, list[str]()
     for crate in sorted(os.listdir(os.path.join(TOP, "crates"))):
         edits = all_edits(crate)
-        stale = [f"{fault}: run python3 bench/rattle/try_edits.py {crate}"
-                 for fault in faults_of_record(crate, edits)]
-        for fault in [*faults_of_files(crate), *faults_of_edits(edits), *stale]:
-            wrong += 1
-            print(f"{crate}: {fault}", file=sys.stderr)
+        stale = (f"{fault}: run python3 bench/rattle/try_edits.py {crate}"
+                 for fault in faults_of_record(crate, edits))
+        wrong += (f"{crate}: {fault}"
+                  for fault in (*faults_of_files(crate), *faults_of_edits(edits), *stale))
         count += len(edits)
         record = record_of(crate)
         if record and record.kit is None:
@@ -82,8 +81,7 @@ def main() -> int:
             other += len(record.lines)
     print(f"{other} lines are of another version of the kit", file=sys.stderr)
     print(f"{unknown} lines don't say with which version of the kit", file=sys.stderr)
-    print(f"{count} edits, {wrong} not so", file=sys.stderr)
-    return 1 if wrong or not count else 0
+    return tell(wrong, f"{count} edits, %d not so", count)
 
 
 if __name__ == "__main__":

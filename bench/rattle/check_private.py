@@ -23,7 +23,7 @@ from collections.abc import Callable, Collection, Sequence
 from typing import Optional, Union
 
 from source import TOP, Found, Item, Node, OfType, Project, RustModule, Word, names_in
-from source import parts_of_impl
+from source import parts_of_impl, tell
 
 
 def is_private_name(module: str) -> bool:
@@ -192,17 +192,16 @@ def main() -> int:
     parser.add_argument("--list", action="store_true", help="those that belong apart, too")
     parser.add_argument("--why", nargs="+", default=[], metavar="CRATE.WORD")
     asked = parser.parse_args()
-    project, wrong = Reached(), 0
+    project, wrong = Reached(), list[str]()
     for key, word in project.words.items():
         if f"{word.crate}.{word.name}" in asked.why:
             print(project.path_to(key) if key in project.why else project.said(key) + ": private")
         if project.is_wrong(word, asked.list):
-            wrong += 1
             path = os.path.relpath(project.crates[word.crate].specs[word.module].path, TOP)
             what = project.path_to(key) if key in project.why else "no public contract reaches it"
-            print(f"{path}:{word.line}: {word.name}: {what}", file=sys.stderr)
-    print(f"{len(project.words)} words, {wrong} not so", file=sys.stderr)
-    return 1 if wrong or not project.words else 0
+            wrong.append(f"{path}:{word.line}: {word.name}: {what}")
+    count = len(project.words)
+    return tell(wrong, f"{count} words, %d not so", count)
 
 
 if __name__ == "__main__":

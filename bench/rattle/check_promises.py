@@ -20,7 +20,7 @@ import grounds
 from edits import MUST_FAIL
 from promises import DOCUMENT, SHOWN, Clause, Promise, clauses, label, made_list, promises, rows
 from promises import shown_by, written_list
-from source import TOP, files_of, functions_of, read
+from source import TOP, files_of, functions_of, read, tell
 
 TRIALS = os.path.join(TOP, "bench", "trials")
 sys.path.append(TRIALS)
@@ -120,14 +120,6 @@ def faults() -> Iterator[str]:
         yield f"{DOCUMENT}: the list isn't that of the sources: promises.py --renew"
 
 
-def main() -> int:
-    wrong = list(faults())
-    for fault in wrong:
-        print(fault, file=sys.stderr)
-    count = len(promises())
-    print(f"{count} promises with {len(clauses())} clauses, {len(wrong)} not so", file=sys.stderr)
-    return 1 if wrong or not count else 0
-
-
 if __name__ == "__main__":
-    sys.exit(main())
+    count = len(promises())
+    sys.exit(tell(faults(), f"{count} promises with {len(clauses())} clauses, %d not so", count))

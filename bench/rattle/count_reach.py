@@ -25,13 +25,12 @@ from source import functions_in, parts_of_impl, read, without_comments
 
 # What README promises, and the calls through which it is kept.
 CONTRACTS = (
-    ("promise 1 of README", ("store_life::laws::each_life_is_opened",
-                             "store_life::laws::kept_are_acknowledged")),
+    ("promise 1 of README",
+     ("store_life::laws::each_life_is_opened", "store_life::laws::kept_are_acknowledged")),
     ("`line_server::answer`", ("line_server::answer",)),
     ("`line_server::serve`", ("line_server::serve",)),
     ("`Store::open`", ("history_store::Store::open",)),
-    ("`Store::import`", ("history_store::Store::import",)),
-)
+    ("`Store::import`", ("history_store::Store::import",)))
 
 METERS = re.compile(r"\b(?:bytes_read|other_calls|failures|failure_count|disk_faults|damages|work"
                     r"|call_count|raised_by|cap|faults)(?:_of)?\b|\w*Makes\w*Calls\b|\bCounts\w*"

@@ -11,6 +11,7 @@ import functools
 import glob
 import os
 import re
+import sys
 from collections.abc import Collection, Iterable, Iterator, Sequence
 from typing import NamedTuple, Optional, Union
 
@@ -76,6 +77,14 @@ def folder_of(crate: str) -> str:
 def files_of(folder: str, ending: str) -> list[str]:
     """The files below a folder of a crate whose names end so."""
     return sorted(glob.glob(f"{folder}/**/*{ending}", recursive=True))
+
+
+def tell(faults: Iterable[str], said: str, count: int) -> int:
+    """Prints what isn't so, and behind it the number of that in a text: the status of a script that
+    looked at so many things."""
+    wrong = list(faults)
+    print(*wrong, said % len(wrong), sep="\n", file=sys.stderr)
+    return 1 if wrong or not count else 0
 
 
 def without_comments(text: str) -> str:
@@ -401,31 +410,55 @@ def function_around(text: str, at: int) -> tuple[Item, Item | None] | None:
                  if found[0].begin <= at < found[0].end and found[0].brace is not None), None)
 
 
+# Brackets around arguments, of types too.
+OPENED, CLOSED = "([{<", ")]}>"
 RUST_PATH = re.compile(r"[A-Za-z_]\w*(?:::[A-Za-z_]\w*)*")
 
 
-def used_names(head: str) -> Iterator[tuple[list[str], str]]:
+def depths(text: str) -> Iterator[tuple[int, str, int]]:
+    """Each sign of a text with its place, and in how many brackets it stands; an arrow closes
+    none."""
+    depth = 0
+    for at, sign in enumerate(text):
+        depth -= sign in CLOSED and text[at - 1 : at + 1] not in ("->", "=>")
+        yield at, sign, depth
+        depth += sign in OPENED
+
+
+def pieces(text: str) -> list[str]:
+    """What stands between the commas that are in no brackets, up to the end of a text or of the
+    brackets that it stands in."""
+    found = [""]
+    for _, sign, depth in depths(text):
+        if depth < 0:
+            break
+        if sign == "," and depth == 0:
+            found.append("")
+        else:
+            found[-1] += sign
+    return [piece for piece in map(str.strip, found) if piece]
+
+
+def parameters(head: str) -> list[str]:
+    """The names of a function's parameters, by its head."""
+    begin = next(at for at, sign, depth in depths(head) if sign == "(" and depth == 0)
+    names = (piece.split(":")[0].replace("mut ", "").strip(" &\n")
+             for piece in pieces(head[begin + 1 :]))
+    return [re.sub(r"^'\w+ ", "", name) for name in names if name]
+
+
+def used_names(text: str, front: Sequence[str] = ()) -> Iterator[tuple[list[str], str]]:
     """The names that a `use` brings: each with its path, without braces."""
-    def walk(front: list[str], text: str) -> Iterator[tuple[list[str], str]]:
-        text = text.strip()
-        found = re.match(r"([\w:]*?)(?:::)?\{(.*)\}$", text, re.S)
-        if found:
-            depth, begin = 0, 0
-            inner = found[2] + ","
-            for at, sign in enumerate(inner):
-                depth += (sign == "{") - (sign == "}")
-                if sign == "," and not depth:
-                    if inner[begin:at].strip():
-                        parts = [part for part in found[1].split("::") if part]
-                        yield from walk(front + parts, inner[begin:at])
-                    begin = at + 1
-            return
-        path, _, alias = text.partition(" as ")
-        parts = front + path.strip().split("::")
-        if parts[-1] == "self":
-            parts.pop()
-        yield parts, alias.strip() or parts[-1]
-    yield from walk([], head)
+    path, brace, inner = text.strip().partition("{")
+    if brace:
+        for piece in pieces(inner):
+            yield from used_names(piece, [*front, *filter(None, path.split("::"))])
+        return
+    path, _, alias = path.partition(" as ")
+    parts = [*front, *path.strip().split("::")]
+    if parts[-1] == "self":
+        parts.pop()
+    yield parts, alias.strip() or parts[-1]
 
 
 class RustModule:
@@ -632,12 +665,8 @@ def parts_of_impl(head: str) -> tuple[str, str]:
     """The trait, or nothing, and the type of an impl."""
     head = re.sub(r"\s+", " ", head).strip()
     if head.startswith("<"):
-        depth = at = 0
-        for at, sign in enumerate(head):
-            depth += (sign == "<") - (sign == ">" and head[at - 1] != "-")
-            if not depth:
-                break
-        head = head[at + 1:].strip()
+        end = next(at for at, sign, depth in depths(head) if sign == ">" and depth == 0)
+        head = head[end + 1:].strip()
     head = head.split(" where ")[0]
     trait, found, made = head.partition(" for ")
     return (trait.strip(), made.strip()) if found else ("", head.strip())

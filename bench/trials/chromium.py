@@ -1,4 +1,4 @@
-"""A headless Chromium, driven over two pipes by its DevTools protocol. Standard library alone."""
+"""A headless Chromium, driven over two pipes by its DevTools protocol."""
 
 import json
 import os
@@ -8,6 +8,8 @@ import subprocess
 import tempfile
 import time
 from typing import Any, Optional
+
+from harness import Wrong
 
 NAMES = ("chromium", "chromium-browser", "google-chrome", "chrome")
 # As root Chromium has no sandbox; the pages are those of the gateway alone.
@@ -24,7 +26,7 @@ KEYS = {"Tab": (9, ""), "Enter": (13, "\r"), " ": (32, " ")}
 Message = dict[str, Any]
 
 
-class Failed(Exception):
+class Failed(Wrong):
     """Chromium doesn't do what it is asked."""
 
 

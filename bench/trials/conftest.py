@@ -10,7 +10,7 @@ from collections.abc import Iterator
 from pathlib import Path
 
 import pytest
-from harness import RELEASES, Place, Wrong
+from harness import RELEASES, Hub, Place, Wrong
 
 # How long a trial may take: no longer than ten seconds on a machine that has nothing else to do.
 TRIAL_SECONDS = 280
@@ -70,6 +70,13 @@ def store(place: Place, two_imports: Path) -> Path:
     """A copy of that store, which a trial may change."""
     shutil.copy(two_imports, place.path("store"))
     return place.path("store")
+
+
+@pytest.fixture
+def hub(place: Place, store: Path) -> Iterator[Hub]:
+    """A hub on that store, which is asked by both of its sockets."""
+    with Hub(place, store, asks=True) as hub:
+        yield hub
 
 
 @pytest.fixture

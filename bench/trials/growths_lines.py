@@ -9,19 +9,18 @@ from typing import Iterable, NamedTuple, Optional, Sequence
 
 import soak
 from case_texts import FOLDER
-from growths_harness import (ALL_BEHIND, ALONE, OUT_OF_MEMORY, Program, Ran, Refusals, replies_in,
+from growths_harness import (ALL_BEHIND, ALONE, OUT_OF_MEMORY, Program, Refusals, replies_in, told,
                              try_each, ways_to_be_refused)
-from harness import RELEASES, Wrong
+from harness import RELEASES, Place, Ran, Wrong
 from soak_model import KINDS, SUBJECTS, File, Model, Reply
 
 import make_release as rf2  # soak.py looks for it.
 
 SEED = 2
-REFUSED = [OUT_OF_MEMORY.decode().strip()]
+REFUSED = [OUT_OF_MEMORY.strip()]
 # The lines that take no memory, and those that are refused for what they say: no such line is
 # refused because memory ran out.
-NEVER = re.compile(
-    "[0-9]+ ((AT [0-9]+ )?RECEIPT|PIN|UNPIN|STATUS|MERGE|PUBLISH|ABANDON|TRIM)( |$)")
+NEVER = re.compile("[0-9]+ ((AT [0-9]+ )?RECEIPT|PIN|UNPIN|STATUS|MERGE|PUBLISH|ABANDON|TRIM)( |$)")
 NONE_READ = ("ERR 41 ", "ERR 42 ", "ERR 43 ")
 # How many requests in a row are refused, of how many numbers each first one, so that lines come
 # again after some were refused; of how many the runs are in which all behind one are; and of how
@@ -43,7 +42,7 @@ class Session:
         self.keeps_all: bool = self.made.is_of_layout_three()
         self.store = Path(self.made.store)
         layout = "3" if self.keeps_all else "2"
-        program.done(["init", "--store", str(self.store), "--layout", layout], folder)
+        Place(program.program, folder).done("init", "--store", self.store, "--layout", layout)
         self.lines: list[str] = []
         for _ in range(count):
             self.lines.append(self.made.line())
@@ -131,7 +130,7 @@ class Runs:
               refusals: Optional[Refusals] = None) -> tuple[Ran, bool]:
         """Serves lines from the store in a folder."""
         words = ["serve", "--store", "store", "--releases", str(self.served.releases)]
-        given = "".join(line + "\n" for line in lines).encode()
+        given = "".join(line + "\n" for line in lines)
         return self.program.run(words, folder, given, refusals)
 
     def check(self, model: Model, lines: Sequence[str], replies: Sequence[Reply]) -> list[int]:
@@ -160,7 +159,7 @@ class Runs:
                 raise Wrong("refused at its start, and another store afterwards")
             return Outcome(True, (), model.state.imports)
         if ran.status or len(replies) != len(lines):
-            raise Wrong("%d replies, %s" % (len(replies), ran.told()))
+            raise Wrong("%d replies, %s" % (len(replies), told(ran)))
         refused = self.check(model, lines, replies)
         if len(refused) > (refusals.how_many if was_refused else 0) >= 0:
             raise Wrong("%d lines refused" % len(refused))
@@ -285,16 +284,16 @@ AGAIN = ["0 IMPORT r1", "0 MERGE", "0 STEP 100", "0 PUBLISH", "0 TRIM"]
 
 def samples() -> dict[str, list[File]]:
     """The files of each release that the demonstration imports, as the model takes them."""
-    return {folder.name: [
-        File(kind, True, list(rf2.rows_of(folder, kind)))
-        for kind in sorted(rf2.KINDS, key=soak.place_of)] for folder in RELEASES.iterdir()}
+    kinds = sorted(rf2.KINDS, key=soak.place_of)
+    return {folder.name: [File(kind, True, list(rf2.rows_of(folder, kind))) for kind in kinds]
+            for folder in RELEASES.iterdir()}
 
 
 def runs_of_script(program: Program, folder: Path, releases: Path,
                    files: dict[str, list[File]]) -> list[Runs]:
     """The runs of the demonstration's lines, and of its questions on the store that it leaves."""
     empty, full = folder / "empty", folder / "full"
-    program.done(["init", "--store", str(empty)], folder)
+    Place(program.program, folder).done("init", "--store", empty)
     script = Runs(program, folder, Served(CHANGES + QUESTIONS + AGAIN, releases, files, empty,
                                           keeps_all=True, is_script=True))
     shutil.copyfile(empty, folder / "store")

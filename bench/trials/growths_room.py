@@ -7,10 +7,10 @@ import struct
 from pathlib import Path
 from typing import NamedTuple
 
-from growths_harness import OUT_OF_MEMORY, Program, Ran, ways_to_be_refused
+from growths_harness import OUT_OF_MEMORY, Program, told, ways_to_be_refused
 from growths_lines import REFUSED, samples
 from growths_tasks import Files, files_in, put
-from harness import RELEASES, Place, Server, Wrong, same
+from harness import RELEASES, Place, Ran, Server, Wrong, same
 from soak_model import Model
 
 # By how many bytes the room for a line grows from one try to the next, how often it is tried, and
@@ -36,7 +36,7 @@ LINES = (
     ("IMPORT r1", 460), ("MERGE", 0), ("STEP 100", 380), ("PUBLISH", 0), ("TRIM", 0),
 )
 # The lines up to this one leave the store that is opened.
-IS_MERGED, MERGED = "TRIM", b"OK 3 12 2 -\n"
+IS_MERGED, MERGED = "TRIM", "OK 3 12 2 -\n"
 # With how many sizes of room the making of a store has to be refused, and its opening.
 LEAST_MADE, LEAST_OPENED = 4_200, 6_700
 STORE = "store"
@@ -48,8 +48,8 @@ class Start(NamedTuple):
 
     name: str
     words: tuple[str, ...]
-    given: bytes
-    output: bytes
+    given: str
+    output: str
     before: Files
     left: tuple[Files, ...]
     least: int
@@ -118,10 +118,10 @@ class Rooms:
 
     def serve(self) -> None:
         """Asks all lines of one server."""
-        self.program.done(["init", "--store", STORE], self.folder)
+        place = Place(self.program.program, self.folder)
+        place.done("init", "--store", STORE)
         store, room = self.folder / STORE, Room(self.folder / "room")
         room.leave(ALL)
-        place = Place(self.program.program, self.folder)
         around = room.around(self.program.library)
         with Server(place, store, RELEASES, around=around) as server:
             # Once this is answered, the store is open.
@@ -148,7 +148,7 @@ class Rooms:
             self.check_start(start, ran, files_in(folder))
             bytes_left, runs = bytes_left + room.lacked(), runs + 1
         if (ran.status, ran.output) != (0, start.output):
-            raise Wrong(ran.told())
+            raise Wrong(told(ran))
         print(f"{start.name}: in {runs} runs")
         self.note(start.name, bytes_left // SIZE, start.least)
 
@@ -157,9 +157,9 @@ class Rooms:
         and left what it may leave."""
         if (ran.status, ran.output) == (0, start.output):
             return
-        ways = ((b"", OUT_OF_MEMORY), *ways_to_be_refused(STORE))
+        ways = (("", OUT_OF_MEMORY), *ways_to_be_refused(STORE))
         if ran.status != 1 or ran[1:] not in ways or files not in start.left:
-            raise Wrong(ran.told())
+            raise Wrong(told(ran))
 
     def starts(self) -> None:
         """Makes a store and opens one: a refusal leaves nothing of the one, and the other as it
@@ -167,10 +167,10 @@ class Rooms:
         none: Files = {}
         store = ("--store", STORE)
         merged = {STORE: self.merged}
-        self.start(Start("a new store", ("init", *store), b"", b"OK\n", none,
+        self.start(Start("a new store", ("init", *store), "", "OK\n", none,
                          (none, {STORE: b""}), LEAST_MADE))
         self.start(Start("an opening", ("serve", *store, "--releases", str(RELEASES)),
-                         b"0 STATUS\n", MERGED, merged, (merged,), LEAST_OPENED))
+                         "0 STATUS\n", MERGED, merged, (merged,), LEAST_OPENED))
 
 
 def are_right(program: Program, folder: Path) -> bool:

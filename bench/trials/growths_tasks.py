@@ -4,9 +4,9 @@ from collections import Counter
 from pathlib import Path
 from typing import Mapping, NamedTuple, Optional
 
-from growths_harness import (ALL_BEHIND, DISK_FAULT, OUT_OF_MEMORY, Program, Ran, Refusals,
-                             replies_in, try_each, ways_to_be_refused)
-from harness import Wrong
+from growths_harness import (ALL_BEHIND, DISK_FAULT, OUT_OF_MEMORY, Program, Refusals, replies_in,
+                             told, try_each, ways_to_be_refused)
+from harness import Place, Ran, Wrong
 
 # The files in a folder, by their names.
 Files = Mapping[str, bytes]
@@ -19,8 +19,8 @@ NONE: Files = {}
 # Of the runs in which all requests are refused from one on, each one with so many in between.
 STEP = 10
 # What is told in place of what can't be found out, beside what is told with all memory.
-PASSED_OVER = b"sctd: passed over "
-UNCOMPARED = b"sctd: warning: not all dates and modules could be compared with the store's"
+PASSED_OVER = "sctd: passed over "
+UNCOMPARED = "sctd: warning: not all dates and modules could be compared with the store's"
 
 
 class Task(NamedTuple):
@@ -29,7 +29,7 @@ class Task(NamedTuple):
 
     words: str
     store: Optional[str] = None
-    given: bytes = b""
+    given: str = ""
     status: int = 0
 
     def command(self) -> str:
@@ -48,7 +48,7 @@ TASKS = (
     Task("digest --store store", THREE),
     Task("copy --store store --to copy --layout 3", THREE),
     Task("serve --store store --releases ../releases", THREE,
-         b"0 STATUS\n0 PIN\n0 RECEIPT 1\n0 UNPIN\n0 TRIM\n"),
+         "0 STATUS\n0 PIN\n0 RECEIPT 1\n0 UNPIN\n0 TRIM\n"),
     # Words that are no task.
     Task("", status=2),
     Task("shelve", status=2),
@@ -56,8 +56,7 @@ TASKS = (
     Task("init --store a --store b", status=2),
     Task("import --store a --releases b", status=2),
     Task("--help"),
-    Task("import --help"),
-)
+    Task("import --help"))
 DEMO = Task("demo")
 
 
@@ -76,23 +75,24 @@ def put(folder: Path, files: Files) -> None:
 def stores_in(program: Program, folder: Path) -> dict[Optional[str], Files]:
     """The files that tasks begin with."""
     made: dict[Optional[str], Files] = {None: NONE}
+    here = Place(program.program, folder)
     for name, layout, releases in ((TWO, "2", 2), (TWO_OF_THREE, "3", 2), (THREE, "2", 3)):
         put(folder, NONE)
-        program.done(["init", "--layout", layout, "--store", STORE], folder)
+        here.done("init", "--layout", layout, "--store", STORE)
         for number in range(1, releases + 1):
-            program.done(["import", "--store", STORE, "../releases/r%d" % number], folder)
+            here.done("import", "--store", STORE, "../releases/r%d" % number)
         made[name] = files_in(folder)
     return made
 
 
-def is_extra(line: bytes) -> bool:
+def is_extra(line: str) -> bool:
     """Whether a line of faults says that there was no memory to find out more: of a folder that
     couldn't be listed, or of dates that couldn't be compared."""
-    return line == UNCOMPARED or line.startswith(PASSED_OVER) and line[-1:] in (b" ", b"/")
+    return line == UNCOMPARED or line.startswith(PASSED_OVER) and line.endswith((" ", "/"))
 
 
-def certain_faults(faults: bytes) -> list[bytes]:
-    return [line for line in faults.split(b"\n")[:-1] if not is_extra(line)]
+def certain_faults(faults: str) -> list[str]:
+    return [line for line in faults.split("\n")[:-1] if not is_extra(line)]
 
 
 class Trial:
@@ -106,7 +106,7 @@ class Trial:
         self.whole, _ = program.run(self.words, place, task.given)
         self.after = files_in(place)
         if self.whole.status != task.status:
-            raise Wrong(self.whole.told())
+            raise Wrong(told(self.whole))
         # How runs ended, in words.
         self.ends: Counter[str] = Counter()
 
@@ -128,40 +128,39 @@ class Trial:
             self.ends["refused"] += 1
             self.check_refused(ran, left, folder)
         else:
-            raise Wrong(ran.told())
+            raise Wrong(told(ran))
         return was_refused
 
     def check_done(self, ran: Ran, left: Files) -> None:
         if certain_faults(ran.faults) != certain_faults(self.whole.faults):
-            raise Wrong("done, but %s" % ran.told())
+            raise Wrong("done, but %s" % told(ran))
         if left != self.after:
             raise Wrong("done, and other files afterwards")
 
     def check_refused(self, ran: Ran, left: Files, folder: Path) -> None:
         """Looks if it is refused as it has to be, and what it leaves."""
-        first, last = ran.faults[:-1].rpartition(b"\n")[::2]
-        begun = certain_faults(first + b"\n") if first else []
-        way = (ran.output, last + b"\n")
+        first, last = ran.faults[:-1].rpartition("\n")[::2]
+        begun = certain_faults(first + "\n") if first else []
+        way = (ran.output, last + "\n")
         if ran.status != 1 or way not in self.ways() or begun != self.begun(len(begun)):
-            raise Wrong(ran.told())
+            raise Wrong(told(ran))
         if left != self.before and not self.may_leave(way, begun, left, folder):
-            raise Wrong("refused, and other files afterwards: %s" % ran.told())
+            raise Wrong("refused, and other files afterwards: %s" % told(ran))
 
-    def ways(self) -> list[tuple[bytes, bytes]]:
+    def ways(self) -> list[tuple[str, str]]:
         is_task = self.whole.status == 0 and "--help" not in self.words
-        return ways_to_be_refused(STORE, COPY) if is_task else [(b"", OUT_OF_MEMORY)]
+        return ways_to_be_refused(STORE, COPY) if is_task else [("", OUT_OF_MEMORY)]
 
-    def begun(self, count: int) -> list[bytes]:
+    def begun(self, count: int) -> list[str]:
         """The first so many lines of faults with all memory."""
         return certain_faults(self.whole.faults)[:count]
 
-    def may_leave(self, way: tuple[bytes, bytes], begun: list[bytes], left: Files,
-                  folder: Path) -> bool:
+    def may_leave(self, way: tuple[str, str], begun: list[str], left: Files, folder: Path) -> bool:
         """Whether a task that was refused may have changed the files to these: to one without a
         byte, for a store or a copy; or by whole merges. What is left of a store is then made the
         one that the task makes, if it is done again."""
         if self.task.command() == "copy":
-            is_unopened = way == (DISK_FAULT, b"sctd: copy: out of memory\n")
+            is_unopened = way == (DISK_FAULT, "sctd: copy: out of memory\n")
             return is_unopened and left == {**self.before, COPY: b""}
         if self.task.command() == "init":
             return left == {STORE: b""} and self.is_done_again(folder) == self.after[STORE]
@@ -171,17 +170,17 @@ class Trial:
         """The store once the task was done on what is left, as it has to be with all memory."""
         ran, _ = self.program.run(self.words, folder, self.task.given)
         if ran[:2] != self.whole[:2]:
-            raise Wrong("again: %s" % ran.told())
+            raise Wrong("again: %s" % told(ran))
         return (folder / STORE).read_bytes()
 
     def has_merged(self, folder: Path) -> bool:
         """Whether the rows are those from before, also once it is merged further."""
-        digest = ["digest", "--store", STORE]
-        first = self.program.done(digest, folder)
+        here, store = Place(self.program.program, folder), folder / STORE
+        first = here.digest(store)
         self.is_done_again(folder)
-        again = self.program.done(digest, folder)
+        again = here.digest(store)
         put(folder, self.before)
-        return first == again == self.program.done(digest, folder)
+        return first == again == here.digest(store)
 
     def all_runs(self) -> None:
         try_each(lambda place, number: self.run(place, Refusals(number)))
@@ -198,11 +197,11 @@ class Demonstration(Trial):
         one that says that memory ran out or the disk failed, and no reply is missing."""
         if left:
             raise Wrong("it left %s" % sorted(left))
-        if ran in ((1, b"", OUT_OF_MEMORY), (1, OUT_OF_MEMORY, b""), (1, DISK_FAULT, b"")):
+        if ran in ((1, "", OUT_OF_MEMORY), (1, OUT_OF_MEMORY, ""), (1, DISK_FAULT, "")):
             return
         usual, said = list(replies_in(self.whole.output)), list(replies_in(ran.output))
-        if (ran.status, ran.faults) != (0, b"") or len(said) != len(usual):
-            raise Wrong(ran.told())
+        if (ran.status, ran.faults) != (0, "") or len(said) != len(usual):
+            raise Wrong(told(ran))
         first = next(reply for reply, wanted in zip(said, usual) if reply != wanted)
         if first not in (["ERR 1 OutOfMemory"], ["ERR 2 DiskFault"]):
             raise Wrong("%r, before memory ran out" % first)

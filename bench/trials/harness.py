@@ -1,9 +1,11 @@
-"""What trials share: the program in a folder of its own, a server, a hub, its clients, and made
-releases. Their fixtures are in conftest.py."""
+"""What trials share: the words of scripts, the program in a folder of its own, a server, a hub, its
+clients, and made releases. Their fixtures are in conftest.py."""
 
 from __future__ import annotations
 
+import argparse
 import contextlib
+import http.client
 import os
 import re
 import select
@@ -14,17 +16,20 @@ import stat
 import subprocess
 import sys
 import time
-from collections.abc import Callable, Mapping, Sequence
+from collections.abc import Callable, Iterable, Mapping, Sequence
 from pathlib import Path
 from typing import NamedTuple
 
 TOP = Path(__file__).resolve().parents[2]
-sys.path.append(str(TOP / "bench" / "measurements"))
+sys.path += [str(TOP / "bench" / "measurements"), str(TOP / "packaging")]
 import make_release as rf2  # noqa: E402
+from needs import MODULES, python_with  # noqa: E402
 
 # Three small releases, whose rows the guide shows.
 RELEASES = TOP / "docs" / "releases"
 HUB = "service/sctd-hub"
+# The status of a script that can't be run on this machine.
+NOT_RUN = 3
 PIPE_SIZE = 1 << 16
 # How long a call of the program, a reply of it and its end may take; and the same of a hub.
 SECONDS, HUB_SECONDS = 120, 30
@@ -65,17 +70,62 @@ for line in sys.stdin.buffer:
 real.stdin.close()
 sys.exit(real.wait())
 """
+# strace beside what it traces, which keeps its place as the trial's child.
+TRACE = ("strace", "-D", "-f", "-qq")
 # When a line of a hub's log was written.
 TIME = re.compile(r"[0-9]{4}-[0-9]{2}-[0-9]{2}T[0-9]{2}:[0-9]{2}:[0-9]{2}Z ")
+# What it tells at its start of a store that it has imported nothing to.
+NO_LINES = re.compile(TIME.pattern + r".*\.imports: it has no line for ([0-9]+) of \1 imports, "
+                      r"the first of which is 1\n")
 
 
 class Wrong(Exception):
     """Something isn't as it has to be."""
 
 
+# What a trial ends with that can't go on.
+FAULTS = (Wrong, OSError, subprocess.SubprocessError, http.client.HTTPException)
+
+
+class NotRun(Exception):
+    """What a trial needs and this machine lacks."""
+
+
 def same(what: str, found: object, wanted: object) -> None:
     if found != wanted:
         raise Wrong(f"{what}: {found!r}, not {wanted!r}")
+
+
+# ---- Scripts that make a trial
+
+
+def parser_of(doc: str | None) -> argparse.ArgumentParser:
+    """The words of a script of this text: the program first."""
+    parser = argparse.ArgumentParser(description=(doc or "").strip().split("\n", maxsplit=1)[0])
+    parser.add_argument("program", type=lambda path: Path(path).resolve(), help="the built sctd")
+    return parser
+
+
+def go_on_with(modules: Iterable[str] = MODULES) -> None:
+    """Goes on in a Python that has these modules: this one, or else the system's."""
+    python = python_with(modules)
+    if python is None:
+        raise NotRun(f"there is no Python with {', '.join(modules)}")
+    if python != sys.executable:
+        os.execv(python, [python, *sys.argv])
+
+
+def tell(trial: Callable[[], object]) -> int:
+    """Makes a trial, and prints what is wrong or missing: the status of its script."""
+    try:
+        trial()
+    except NotRun as lacks:
+        print(f"not run: {lacks}")
+        return NOT_RUN
+    except FAULTS as why:
+        print(f"WRONG: {why}")
+        return 1
+    return 0
 
 
 class Ran(NamedTuple):
@@ -128,20 +178,19 @@ class Place:
         """Puts one of the small releases beside those that are made."""
         self.releases.joinpath(name).symlink_to(RELEASES / name)
 
-    def contents(self) -> dict[str, bytes]:
-        """The bytes of each file, by its path."""
-        files = [path for path in self.folder.rglob("*") if path.is_file()]
-        return {str(path.relative_to(self.folder)): path.read_bytes() for path in files}
+    def contents(self) -> dict[str, bytes | None]:
+        """The bytes of each file by its path, and none of what is something else."""
+        return {str(path.relative_to(self.folder)): path.read_bytes() if path.is_file() else None
+                for path in self.folder.rglob("*")}
 
     # ---- the program
 
     def run(self, *words: str | Path, given: str = "", around: Mapping[str, str] | None = None,
             before: Callable[[], object] | None = None) -> Ran:
         """Runs the program to its end. The process that becomes it does what is before it."""
-        done = subprocess.run(
-            [self.program, *words], cwd=self.folder, input=given.encode(), stdout=subprocess.PIPE,
-            stderr=subprocess.PIPE, timeout=self.seconds, env=around, preexec_fn=before,
-            check=False)
+        done = subprocess.run([self.program, *words], cwd=self.folder, input=given.encode(),
+                              stdout=subprocess.PIPE, stderr=subprocess.PIPE, timeout=self.seconds,
+                              env=around, preexec_fn=before, check=False)
         return Ran(done.returncode, done.stdout.decode(), done.stderr.decode())
 
     def done(self, *words: str | Path) -> str:
@@ -150,6 +199,20 @@ class Place:
         if ran.status != 0 or not ran.output.startswith("OK"):
             raise Wrong(f"{' '.join(map(str, words))}: {ran!r}")
         return ran.output.rstrip("\n")
+
+    def refuses(self, words: Sequence[str | Path], reply: str, why: str,
+                warned: Sequence[str] = (), around: Mapping[str, str] | None = None,
+                before: Callable[[], object] | None = None) -> None:
+        """A call that has to be refused by this reply, with this in its only line for people, or
+        behind a line for each warning, which begins so. All files stay as they were."""
+        there = self.contents()
+        ran = self.run(*words, around=around, before=before)
+        same("what is answered", ran[:2], (1, reply + "\n"))
+        *warnings, last = ran.faults.splitlines() or [""]
+        is_told = last.startswith("sctd: ") and why in last + "\n" and len(warnings) == len(warned)
+        if not (is_told and all(map(str.startswith, warnings, warned))):
+            raise Wrong(f"{ran.faults!r}, not {why!r}")
+        same("whether a file was changed", self.contents() == there, True)
 
     def make_store(self, name: str = "store", layout: int = 2) -> Path:
         path = self.path(name)
@@ -190,6 +253,13 @@ class Place:
             words += [] if number is None else [option, str(number)]
         self.done("copy", "--store", store, "--to", path, *words)
         return path
+
+    def digest_of(self, *releases: Path | str) -> str:
+        """The digest that examples/digest.py computes from releases; those behind `--all` were
+        imported into a store that keeps all their files."""
+        done = self.run_script("examples/digest.py", *releases)
+        same("how a digest is computed", (done.returncode, done.stderr), (0, b""))
+        return done.stdout.decode().rstrip("\n")
 
     def ask(self, store: Path, lines: Sequence[str]) -> list[list[str]]:
         """The replies to lines of one session."""
@@ -237,8 +307,9 @@ class Server:
     def ask(self, line: str) -> list[str]:
         """The lines of the reply to a line of session 0."""
         assert self.process.stdin
-        self.process.stdin.write(f"0 {line}\n".encode())
-        self.process.stdin.flush()
+        with contextlib.suppress(BrokenPipeError):  # What it said before it ended is read next.
+            self.process.stdin.write(f"0 {line}\n".encode())
+            self.process.stdin.flush()
         reply = [self.line(line)]
         while reply[-1].split(" ")[0] not in LAST_WORDS:
             reply.append(self.line(line))
@@ -347,8 +418,10 @@ class Hub:
         return self.end()
 
     def told(self) -> str:
-        """What it and its program have written to standard error."""
-        return self.faults.read_text("utf-8", "backslashreplace")
+        """What it and its program have written to standard error, without a first line that says
+        that no import has a line in the list of imports."""
+        text = self.faults.read_text("utf-8", "backslashreplace")
+        return NO_LINES.sub("", text, count=1) if NO_LINES.match(text) else text
 
     def logged(self, is_alone: bool = True) -> list[str]:
         """The lines of its log, without their times, which stand alone or beside those of the
@@ -412,10 +485,20 @@ class Client:
         self.lines.close()
         self.connection.close()
 
+    close = leave
+
 
 def mode(path: Path) -> int:
     """The rights of a file, and not of what a link leads to."""
     return stat.S_IMODE(path.lstat().st_mode)
+
+
+def has_strace() -> bool:
+    """Whether strace is there, and allowed."""
+    if shutil.which("strace") is None:
+        return False
+    return subprocess.run([*TRACE, "-o", os.devnull, "true"], stderr=subprocess.DEVNULL,
+                          timeout=HUB_SECONDS, check=False).returncode == 0
 
 
 def children(number: int) -> set[int]:

@@ -57,9 +57,8 @@ def release(number: int) -> dict[str, list[Columns]]:
         FIRST_ITEM * 2 + number, day_of(1), late, SYNONYM, "Late term of release %d" % number))
     if number == 1:
         found["C"] = [[code, day, "1", CORE, PRIMITIVE] for code in codes]
-        found["R"] = [
-            [str(sctid(FIRST_ITEM + place, "02")), day, "1", CORE, code, TOP, "0", IS_A, INFERRED,
-             MODIFIER] for place, code in enumerate(CODES)]
+        found["R"] = [[str(sctid(FIRST_ITEM + place, "02")), day, "1", CORE, code, TOP, "0", IS_A,
+                       INFERRED, MODIFIER] for place, code in enumerate(CODES)]
     else:
         is_active = str(number // CONCEPTS % 2)
         found["C"] = [[late, day, is_active, CORE, PRIMITIVE]]

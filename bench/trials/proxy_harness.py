@@ -17,7 +17,7 @@ from collections.abc import Callable, Iterator, Mapping, Sequence
 from pathlib import Path
 from typing import NamedTuple, Optional, Self
 
-from harness import Wrong, children, same, until
+from harness import NotRun, Wrong, children, same, until
 
 ROOT = Path(__file__).resolve().parents[2]
 SERVICE = ROOT / "service"
@@ -25,13 +25,12 @@ sys.path += [str(ROOT / "packaging"), str(SERVICE)]
 import first_look  # noqa: E402
 from needs import python_with  # noqa: E402
 
-NOT_RUN = 3
 SECONDS = 60
 # How often it is looked whether something is as it is waited for.
 LOOK_SECONDS = 0.05
 HOST = "127.0.0.1"
 NAME = "terms.example.org"
-TOOLS = ("openssl",)
+OPENSSL = "openssl"
 USER = "Smith, Alice"
 EDITION, LANGUAGE = first_look.EDITION, first_look.LANGUAGE
 MAIN = """daemon off;
@@ -87,10 +86,13 @@ def run(*words: str) -> str:
     return said
 
 
-def missing(tools: Sequence[str] = (NGINX.name, *TOOLS)) -> Optional[str]:
-    """What of this machine a trial lacks; nothing where it can be run."""
-    lacks = next((tool for tool in tools if shutil.which(tool) is None), None)
-    return lacks or (None if python_with() else "Python with what the gateway imports")
+def need(*tools: str) -> None:
+    """Looks for what a trial needs: these tools, and what the gateway imports."""
+    for tool in tools:
+        if shutil.which(tool) is None:
+            raise NotRun(f"there is no {tool}")
+    if python_with() is None:
+        raise NotRun("there is no Python with what the gateway imports")
 
 
 class Authority:

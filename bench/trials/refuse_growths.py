@@ -31,12 +31,11 @@ import growths_lines as lines
 import growths_room as room
 import growths_tasks as tasks
 from growths_harness import Program
-from harness import RELEASES
+from harness import RELEASES, NotRun, Wrong, parser_of, tell
 
 IN_MEMORY = Path("/dev/shm")
 # How many random lines there are where no number is given.
 LINES = 40
-NOT_RUN = 3
 
 
 def are_right(program: Path, folder: Path, words: list[str]) -> bool:
@@ -57,22 +56,21 @@ def are_right(program: Path, folder: Path, words: list[str]) -> bool:
     return all([each.are_right() for each in runs])
 
 
-def main(words: list[str]) -> int:
-    assert __doc__
-    if not 1 <= len(words) <= 3:
-        print(__doc__.strip(), file=sys.stderr)
-        return 2
+def tried(program: Path, words: list[str]) -> None:
     if shutil.which("cc") is None:
-        print("there is no C compiler")
-        return NOT_RUN
-    program = Path(words[0]).resolve()
-    around = str(IN_MEMORY) if IN_MEMORY.is_dir() else None
-    folder = Path(tempfile.mkdtemp(prefix="sctd-growths-", dir=around))
-    try:
-        return 0 if are_right(program, folder, words[1:]) else 1
-    finally:
-        shutil.rmtree(folder)
+        raise NotRun("there is no C compiler")
+    around = IN_MEMORY if IN_MEMORY.is_dir() else None
+    with tempfile.TemporaryDirectory(prefix="sctd-growths-", dir=around) as folder:
+        if not are_right(program, Path(folder), words):
+            raise Wrong("not all runs are as they have to be")
+
+
+def main() -> int:
+    parser = parser_of(__doc__)
+    parser.add_argument("words", nargs="*", help="script, tasks, or LINES and SEED")
+    asked = parser.parse_args()
+    return tell(lambda: tried(asked.program, asked.words))
 
 
 if __name__ == "__main__":
-    sys.exit(main(sys.argv[1:]))
+    sys.exit(main())

@@ -10,7 +10,6 @@ times SECONDS, and its store is copied in layout 3 after SECONDS. The same SEED 
 up to the first kill.
 """
 
-import argparse
 import contextlib
 import os
 import random
@@ -26,13 +25,10 @@ from collections.abc import Callable, Sequence
 from pathlib import Path
 from typing import Optional
 
-BENCH = os.path.dirname(os.path.dirname(os.path.abspath(__file__)))
-sys.path += [os.path.join(BENCH, "measurements"), os.path.join(BENCH, "trials")]
-import make_release as rf2  # noqa: E402
-from harness import Wrong  # noqa: E402
-from soak_model import CONCEPT, DESTINATION, KINDS, REFERENCED, REFSET, SUBJECTS  # noqa: E402
-from soak_model import TARGET, TYPE  # noqa: E402
-from soak_model import Columns, Fault, File, Model, State, publications  # noqa: E402
+from harness import NOT_RUN, Place, Wrong, parser_of, same, tell
+from soak_model import CONCEPT, DESTINATION, KINDS, REFERENCED, REFSET, SUBJECTS, TARGET, TYPE
+from soak_model import Columns, Fault, File, Model, State, publications
+import make_release as rf2  # harness.py looks for it.
 
 DATES = ["%d%s31" % (year, month) for year in range(2015, 2026) for month in ("01", "07")]
 LAST_DATE = "99991231"
@@ -41,6 +37,10 @@ AROUND = ("ANCESTORS", "DESCENDANTS", "REPLACED", "REPLACES")
 ASKED_AROUND = 200
 # The questions of members that have to be answered by a row, each with what is counted.
 ANSWERED = {"members_answered": "MEMBERS", "values_answered": "VALUES", "called_answered": "CALLED"}
+# What else is counted.
+COUNTED = """openings kills_in_openings kills_in_batches lines imports imports_cut_kept
+imports_cut_lost publications publications_cut_kept publications_cut_lost trims dumps
+seconds_refused copies copies_cut releases_again""".split()
 # How many members of a reference set are asked for at a time.
 MEMBERS_AT_ONCE = 50
 # How long a reply may take, and a program that ends by itself.
@@ -48,8 +48,6 @@ SECONDS = 60
 # How many seconds it runs where none are given, and up to how many times as long where something
 # wasn't tried by then.
 RUN_SECONDS, TIMES_LONGER = 60, 4
-# The status where it still wasn't.
-NOT_TRIED = 3
 PIPE_SIZE = 1 << 16
 # Where the layouts stand in the two directories of a store, and layout 1.
 LAYOUTS_AT = (4111, 12303)
@@ -68,10 +66,9 @@ def odd_members(count: int) -> rf2.Sort:
 ODD_SORTS = {"Odd%d" % count: odd_members(count) for count in (0, 1, 3)}
 OTHER_ASSOCIATIONS = "OtherAssociations"
 UNKEPT = "StatedRelationship"
-SORTS = {
-    **rf2.BASIC_SORTS, **rf2.FURTHER_SORTS, **ODD_SORTS, UNKEPT: rf2.UNKEPT_SORTS[UNKEPT],
-    OTHER_ASSOCIATIONS: rf2.BASIC_SORTS["A"]._replace(
-        name="Refset/More/der2_cRefset_AssociationOther{}_INT_{}.txt")}
+SORTS = {**rf2.BASIC_SORTS, **rf2.FURTHER_SORTS, **ODD_SORTS, UNKEPT: rf2.UNKEPT_SORTS[UNKEPT],
+         OTHER_ASSOCIATIONS: rf2.BASIC_SORTS["A"]._replace(
+             name="Refset/More/der2_cRefset_AssociationOther{}_INT_{}.txt")}
 # Of which sorts rows are made, each as likely as another.
 DRAWN = [*"CCDDDDRRRRAV", *["Language"] * 4, *SORTS]
 # What may stand in a further column that no package has.
@@ -318,18 +315,14 @@ class Soak:
 
     def __init__(self, program: str, seed: int, folder: str) -> None:
         self.program, self.folder, self.seed = program, folder, seed
+        self.place = Place(Path(program), Path(folder))
         self.chance, self.kind = random.Random(seed), "C"
         self.releases = Releases(self.chance, os.path.join(folder, "releases"))
         self.model = Model(self.releases.files, keeps_all=self.is_of_layout_three())
         self.store = os.path.join(folder, "store")
         self.serving: Optional[Program] = None
         self.took = 0.05
-        self.counts = dict.fromkeys(
-            "openings kills_in_openings kills_in_batches lines imports imports_cut_kept "
-            "imports_cut_lost publications publications_cut_kept publications_cut_lost trims "
-            "dumps seconds_refused copies copies_cut releases_again".split() + list(ANSWERED),
-            0,
-        )
+        self.counts = dict.fromkeys([*COUNTED, *ANSWERED], 0)
 
     def is_of_layout_three(self) -> bool:
         """Whether the run begins with a store of layout 3."""
@@ -612,10 +605,8 @@ class Soak:
         return [next(iter(shown[name].values()))[1][0] for name in self.model.kinds[kind].ids]
 
     def run(self, seconds: int) -> None:
-        layout = ["--layout", "3" if self.is_of_layout_three() else "2"]
-        made = self.ended(["init", "--store", self.store] + layout)
-        if made.returncode or made.stdout != b"OK\n":
-            raise Wrong("init: %r, status %d" % (made.stdout, made.returncode))
+        same("init", self.place.done("init", "--store", self.store, "--layout",
+                                     "3" if self.is_of_layout_three() else "2"), "OK")
         if self.seed % 3 == 1:
             self.make_layout_one()
         self.start()
@@ -635,11 +626,7 @@ class Soak:
                 self.counts["trims"] += lines.count("0 TRIM")
         self.check("0 UNPIN")
         self.everything()
-        status, rest = self.served.end()
-        if rest:
-            raise Wrong("behind the last reply: %r" % rest[:300])
-        if status:
-            raise Wrong("the program ended with the status %d" % status)
+        same("the end", self.served.end(), (0, b""))
 
     def make_layout_one(self) -> None:
         """Makes of the new store one of layout 1."""
@@ -652,9 +639,7 @@ class Soak:
     def copy_in_layout_three(self) -> None:
         """Between two servers a copy in layout 3 takes the place of the store, perhaps after a copy
         that was killed."""
-        status, rest = self.served.end()
-        if rest or status:
-            raise Wrong("before a copy: %r, status %d" % (rest[:300], status))
+        same("the end before a copy", self.served.end(), (0, b""))
         made = self.store + ".copy"
         words = ["copy", "--store", self.store, "--to", made, "--layout", "3"]
         if self.chance.random() < 0.5:
@@ -663,9 +648,7 @@ class Soak:
             cut.kill()
             self.counts["copies_cut"] += 1
             Path(made).unlink(missing_ok=True)
-        done = self.ended(words)
-        if (done.returncode, done.stdout) != (0, b"OK\n"):
-            raise Wrong("copy: %r, status %d" % (done.stdout, done.returncode))
+        same("a copy", self.place.done(*words), "OK")
         os.replace(made, self.store)
         self.counts["copies"] += 1
         self.model.keeps_all = True
@@ -676,21 +659,11 @@ class Soak:
         self.check("0 STATUS")
         before = Path(self.store).read_bytes()
         name = self.releases.make()
-        done = self.ended(
-            ["import", "--store", self.store, "--releases", self.releases.folder, name])
-        after = Path(self.store).read_bytes()
-        if (done.returncode, done.stdout) != (1, b"ERR 2 DiskFault\n") or before != after:
-            raise Wrong("a second program: %r, status %d" % (done.stdout, done.returncode))
+        ran = self.place.run("import", "--store", self.store, "--releases", self.releases.folder,
+                             name)
+        same("a second program", ran[:2], (1, "ERR 2 DiskFault\n"))
+        same("whether it changes the store", Path(self.store).read_bytes() == before, True)
         self.counts["seconds_refused"] += 1
-
-    def ended(self, words: list[str]) -> subprocess.CompletedProcess[bytes]:
-        """The program run with these words, once it has ended."""
-        try:
-            return subprocess.run(
-                [self.program] + words, stdout=subprocess.PIPE, stderr=subprocess.DEVNULL,
-                timeout=SECONDS, check=False)
-        except subprocess.TimeoutExpired:
-            raise Wrong("sctd %s hasn't ended after %d seconds" % (words[0], SECONDS)) from None
 
     def figures(self, seconds: int) -> None:
         state = self.model.state
@@ -702,11 +675,8 @@ class Soak:
 
     def untried(self) -> list[str]:
         """What was to be cut short and never was, or asked and never answered by a row."""
-        cut = {
-            name: self.counts[name + "_cut_kept"] + self.counts[name + "_cut_lost"]
-            for name in ("imports", "publications")
-        }
-        missed = ["no kill cut any %s short" % name for name in cut if not cut[name]]
+        missed = ["no kill cut any %s short" % name for name in ("imports", "publications")
+                  if not self.counts[name + "_cut_kept"] + self.counts[name + "_cut_lost"]]
         return missed + ["no %s was answered by a row" % ANSWERED[count]
                          for count in ANSWERED if not self.counts[count]]
 
@@ -720,41 +690,36 @@ PARTS: dict[str, Callable[[Soak], object]] = {
     "after_C": lambda it: it.chance.choice(["-", it.after("C")]),
     "after_D": lambda it: it.after("D"),
     "after_M": lambda it: it.chance.choice(["-", "-", it.component("M"), rf2.ROOT]),
-    "after_value": lambda it: it.chance.choice(
-        ["-", it.told_by("M", REFERENCED), it.component("D")]),
+    "after_value": lambda it: it.chance.choice([
+        "-", it.told_by("M", REFERENCED), it.component("D")]),
     "prefix": lambda it: it.chance.choice(rf2.WORDS)[: it.chance.choice([1, 2, 9])].upper(),
     "import": lambda it: it.chance.randint(0, it.model.state.imports + 1),
     "days": lambda it: it.chance.choice(["DATES", "DATES", "DIGEST"]),
     "replacing": lambda it: it.told_by("A", TARGET), "subject": lambda it: it.subject(),
     "refset": lambda it: it.refset(), "named": lambda it: it.named(), "key": lambda it: it.key(),
-    "links": lambda it: it.links(),
-}
+    "links": lambda it: it.links()}
 
 
 def main() -> int:
-    parser = argparse.ArgumentParser(description=(__doc__ or "").partition("\n")[0])
-    parser.add_argument("program", help="the built sctd")
+    parser = parser_of(__doc__)
     parser.add_argument("seconds", type=int, nargs="?", default=RUN_SECONDS)
     parser.add_argument("seed", type=int, nargs="?", default=1)
     parser.add_argument("folder", nargs="?", help="of the store and the releases, which stays")
     asked = parser.parse_args()
     folder = asked.folder or tempfile.mkdtemp(prefix="sctd-soak-")
-    soak = Soak(os.path.abspath(asked.program), asked.seed, folder)
-    try:
-        soak.run(asked.seconds)
-    except Wrong as wrong:
-        print("WRONG: %s" % wrong)
+    soak = Soak(str(asked.program), asked.seed, folder)
+    status = tell(lambda: soak.run(asked.seconds))
+    if soak.serving is not None and soak.serving.process.poll() is None:
+        soak.serving.process.kill()
+    if status:
         print("the files are in %s" % folder)
-        return 1
-    finally:
-        if soak.serving is not None and soak.serving.process.poll() is None:
-            soak.serving.process.kill()
+        return status
     soak.figures(asked.seconds)
     if not asked.folder:
         shutil.rmtree(folder)
     for what in soak.untried():
         print("NOT TRIED: %s" % what)
-    return NOT_TRIED if soak.untried() else 0
+    return NOT_RUN if soak.untried() else 0
 
 
 if __name__ == "__main__":

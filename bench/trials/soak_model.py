@@ -264,8 +264,7 @@ class Model:
 
     def ask_search(self, pin: int, date: str, after: str, limit: str, prefix: str) -> Reply:
         folded = prefix.casefold()
-        found = [c for c in self.active(pin, "D", date)
-                 if c[TERM].casefold().startswith(folded)]
+        found = [c for c in self.active(pin, "D", date) if c[TERM].casefold().startswith(folded)]
         if after != "-":
             found = [c for c in found if int(c[0]) > int(after)]
         return rows_and_end(found[: int(limit)])

@@ -14,14 +14,12 @@ from harness import Client, Hub, Place, concept, concept_id, flip, mode, until, 
 CLIENTS, ROUNDS = 50, 20
 # How many copies are made beside imports.
 COPIES = 10
-BAD_COPIES = [
-    ("relative", "the path doesn't begin with /"), ("", "the path doesn't begin with /"),
-    ("/no folder/a\x1bb", "the name isn't printable"),
-    ("/no folder/a\rb", "the name isn't printable"),
-    ("/no folder/a\u202eb", "the name isn't printable"),
-    ("/no folder/copy", "No such file or directory"), ("/", "File exists"),
-    ("/dev/full", "File exists"), ("/" + "x" * 300, "File name too long"),
-]
+BAD_COPIES = [("relative", "the path doesn't begin with /"), ("", "the path doesn't begin with /"),
+              ("/no folder/a\x1bb", "the name isn't printable"),
+              ("/no folder/a\rb", "the name isn't printable"),
+              ("/no folder/a\u202eb", "the name isn't printable"),
+              ("/no folder/copy", "No such file or directory"), ("/", "File exists"),
+              ("/dev/full", "File exists"), ("/" + "x" * 300, "File name too long")]
 
 
 def test_copies(place: Place, store: Path) -> None:
@@ -123,9 +121,8 @@ def slow(place: Place) -> Slowly:
     return Slowly(place)
 
 
-QUESTIONS = [
-    f"GET C {concept_id(1)} 20250131", f"GET C {concept_id(1)} 20240131", "RECEIPT 1",
-    f"HISTORY C {concept_id(9_999)}", f"PAGE C 20250131 {concept_id(5_000)} 20"]
+QUESTIONS = [f"GET C {concept_id(1)} 20250131", f"GET C {concept_id(1)} 20240131", "RECEIPT 1",
+             f"HISTORY C {concept_id(9_999)}", f"PAGE C 20250131 {concept_id(5_000)} 20"]
 
 
 class Crowd:

@@ -162,13 +162,12 @@ def test_slow_lines(place: Place, two_imports: Path) -> None:
         assert told == [f"RECEIPT 2 of user {os.getuid()}"]
 
 
-def test_replaced(place: Place, store: Path) -> None:
+def test_replaced(hub: Hub, place: Place, store: Path) -> None:
     """Where another file takes the place of the store's, the hub ends with 1, and says why."""
     shutil.copy(store, place.path("other"))
-    with Hub(place, store) as hub:
-        assert hub.first_line == "OK ready"
-        os.replace(place.path("other"), store)
-        began = time.monotonic()
-        assert hub.end() == 1
-        assert time.monotonic() - began < SOON
-        assert hub.logged() == ["the store's file was replaced: the hub ends"]
+    assert hub.first_line == "OK ready"
+    os.replace(place.path("other"), store)
+    began = time.monotonic()
+    assert hub.end() == 1
+    assert time.monotonic() - began < SOON
+    assert hub.logged() == ["the store's file was replaced: the hub ends"]

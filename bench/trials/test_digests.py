@@ -65,9 +65,9 @@ class Held:
 def test_own_digests(place: Place, layout: int, rows: int) -> None:
     """A digest is that of the program itself, of each kind of rows, at each pin, however the
     session came to it."""
-    rf2.write_package(str(place.releases / "whole"), rf2.Package(SEED), PACKAGE_ROWS)
+    whole = rf2.make(place.releases, PACKAGE_ROWS, SEED, is_package=True).full
     store = place.make_store(layout=layout)
-    place.import_all(store, [place.releases / "whole", RELEASES / "r1", RELEASES / "r2"])
+    place.import_all(store, [whole, RELEASES / "r1", RELEASES / "r2"])
     own = [[f"OK {place.digest(store, pin)}"] for pin in range(4)]
     assert len(set(map(str, own))) == 4
     with Hub(paged(place, rows), store, asks=True) as hub:

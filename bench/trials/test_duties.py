@@ -13,8 +13,8 @@ from pathlib import Path
 
 import pytest
 
-from harness import HANDING_ON, HUB_SECONDS, RECORDER, RELEASES, TOP, Client, Hub, Place, Wrong
-from harness import concept, concept_id, mode, until, write_release
+from harness import HANDING_ON, HUB_SECONDS, RECORDER, RELEASES, TOP, TRACE, Client, Hub, Place
+from harness import Wrong, concept, concept_id, has_strace, mode, until, write_release
 from test_copies import begin_copy, slow_copies
 import make_release as rf2
 
@@ -24,6 +24,8 @@ STATUS = ["OK 2 10 2 -"]
 NIGHTS = 300
 MOST_SEGMENTS = 250
 ALMOST_FULL = MOST_SEGMENTS - 1
+# Lines that are on their way at the same time.
+ASKED = b"STATUS\n" * 200
 MERGE_ABOVE = 100
 # Another user and group than the hub's.
 NOBODY = 65534
@@ -62,8 +64,7 @@ AUDIT = [
     ("MEMBERS 900000000000509007 20210131 - 10", ["ERR 14 LaterVersion"]),
     ("VALUES 900000000000509007 20210131 - 10", ["ERR 14 LaterVersion"]),
     ("CALLED 1000004 20210131 900000000000509007", ["ERR 14 LaterVersion"]),
-    ("DIGEST", ["OK " + DIGEST_IN_2021]),
-]
+    ("DIGEST", ["OK " + DIGEST_IN_2021])]
 AT_A_PIN = [("AT 2 " + line, wanted) for line, wanted in AUDIT] + [
     ("AT 1 DATES", ["DATE 20200131", "END 1"]), ("AT 1 TIMELINE A 1000004", ["END 0"]),
     ("AT 1 DIGEST", ["OK " + DIGEST_IN_2020])]
@@ -111,31 +112,18 @@ def test_what_arrives(place: Place, store: Path) -> None:
     assert arrived.count("1 UNPIN") == 1
 
 
-def test_pins_apart(place: Place, store: Path) -> None:
+def test_pins_apart(hub: Hub) -> None:
     """No client can touch the pin of another one, on whichever sockets they are."""
-    with Hub(place, store, asks=True) as hub:
-        clients = [hub.asker(), hub.asker(), hub.client(), hub.client()]
-        assert clients[0].ask("PIN 1") == ["OK 1"]
-        assert clients[2].ask("PIN 1") == ["OK 1"]
-        for line in ("UNPIN", "PIN 2", "PIN", "1 UNPIN", "2 UNPIN", "3 UNPIN", "0 UNPIN",
-                     "UNPIN 1"):
-            clients[1].ask(line)
-            clients[3].ask(line)
-        for client in clients[::2]:
-            assert client.ask("RECEIPT 2") == ["ERR 44 PinRange"]
-        for client in clients[1::2]:
-            assert client.ask("RECEIPT 2") == ["OK 2 4 20210131"]
-
-
-# strace beside what it traces, which keeps its place as the trial's child.
-TRACE = ["strace", "-D", "-f", "-qq"]
-
-
-def has_strace() -> bool:
-    if shutil.which("strace") is None:
-        return False
-    return subprocess.run(["strace", "-qq", "-o", "/dev/null", "true"], stderr=subprocess.DEVNULL,
-                          timeout=HUB_SECONDS, check=False).returncode == 0
+    clients = [hub.asker(), hub.asker(), hub.client(), hub.client()]
+    assert clients[0].ask("PIN 1") == ["OK 1"]
+    assert clients[2].ask("PIN 1") == ["OK 1"]
+    for line in ("UNPIN", "PIN 2", "PIN", "1 UNPIN", "2 UNPIN", "3 UNPIN", "0 UNPIN", "UNPIN 1"):
+        clients[1].ask(line)
+        clients[3].ask(line)
+    for client in clients[::2]:
+        assert client.ask("RECEIPT 2") == ["ERR 44 PinRange"]
+    for client in clients[1::2]:
+        assert client.ask("RECEIPT 2") == ["OK 2 4 20210131"]
 
 
 @pytest.mark.parametrize("has_group, wanted", ((False, 0o600), (True, 0o660)))
@@ -226,8 +214,7 @@ def test_the_log(place: Place) -> None:
     assert lines == [
         "CHECK r1: OK 1 6 0", "IMPORT r1: OK 1 6 0", "IMPORT r2: OK 2 4 0",
         "IMPORT r9: ERR 45 NoFolder", "STEP 1: ERR 11 NoMerge", "PUBLISH: OK",
-        "IMPORT r\\x1b[31m: ERR 43 Arguments",
-        "IMPORT a\\rb\\u2028c\\\\n: ERR 43 Arguments",
+        "IMPORT r\\x1b[31m: ERR 43 Arguments", "IMPORT a\\rb\\u2028c\\\\n: ERR 43 Arguments",
         f"BACKUP {copy}: OK 2 10 1", "IMPORT \\xff\\x00\\x7f: ERR 43 Arguments"]
     assert all(sign.isprintable() for sign in told.replace("\n", ""))
     assert f"sctd: {RELEASES / 'r9'}: no such folder" in told
@@ -339,12 +326,39 @@ def store_to_merge(place: Place) -> Path:
     return own
 
 
+class Asking:
+    """A client that always has lines on their way, also while one that imports waits until the
+    list of imports has the line of its import."""
+
+    def __init__(self, hub: Hub) -> None:
+        self.client, self.is_over = hub.client(), False
+        self.thread = threading.Thread(target=self.ask)
+
+    def ask(self) -> None:
+        self.client.send(ASKED)
+        while not self.is_over:
+            self.client.send(ASKED)
+            self.read()
+        self.read()
+
+    def read(self) -> None:
+        for _ in range(ASKED.count(b"\n")):
+            self.client.read()
+
+    def __enter__(self) -> None:
+        self.thread.start()
+
+    def __exit__(self, *_: object) -> None:
+        self.is_over = True
+        self.thread.join()
+
+
 def test_steps(place: Place) -> None:
     """Merges go in steps of 1,000 rows, and clients are answered between them, imports too. A merge
     that a client has begun is left to that."""
     recording = place.wrapped(RECORDER)
     own = store_to_merge(place)
-    with Hub(recording, own, "--merge-above", "2", releases=place.releases) as hub:
+    with Hub(recording, own, "--merge-above", "2", releases=place.releases) as hub, Asking(hub):
         client = hub.client()
         for line, count in ((b"IMPORT third\n", 100), (b"IMPORT between\n", 2_000)):
             client.send(line + b"STATUS\n" * count)
@@ -370,7 +384,7 @@ def test_steps(place: Place) -> None:
     assert len(at) == 29
     between = [lines[one:other] for one, other in zip(at[:8], at[1:8])]
     assert all(len(some) > 1 for some in between)
-    assert sum(b"1 IMPORT between" in some for some in between) == 1
+    assert sum(line.endswith(b" IMPORT between") for some in between for line in some) == 1
 
 
 UNIT, GATEWAY_UNIT = (TOP / "packaging" / name for name in ("sctd.service", "sctd-gateway.service"))

@@ -6,34 +6,31 @@ import shutil
 import signal
 import socket
 import sqlite3
-import subprocess
-import sys
 import threading
 from collections import Counter
 from collections.abc import Iterator, Sequence
 from pathlib import Path
+from typing import NamedTuple
 
 import pytest
 
 import harness
 import make_release as rf2
-from harness import HUB_SECONDS, RELEASES, SECONDS, TOP, Hub, Place, concept, write_release
-from test_readers import CHAINS, Script
+from harness import HUB_SECONDS, RELEASES, Hub, Place, concept, write_release
+from test_readers import CHAINS, Script, ends_with
 
-EXPORT, FOLLOW, DIGEST = "examples/export.py", "examples/follow.py", "examples/digest.py"
+EXPORT, FOLLOW = "examples/export.py", "examples/follow.py"
 SEED, PACKAGE_ROWS = 3, 3_000
 # Rows of an import that takes a follower some time, one by one; and more than a pipe takes.
 MANY_ROWS = 4_000
 
 
-class Made:
-    """A store, a hub on it that keeps standing, and what it was made of."""
+class Made(NamedTuple):
+    """A hub on a store that keeps standing, and what the store was made of."""
 
-    def __init__(self, place: Place, layout: int, releases: Sequence[Path]) -> None:
-        self.place, self.releases = place, releases
-        self.store = place.make_store(layout=layout)
-        place.import_all(self.store, releases)
-        self.hub = Hub(place, self.store, releases=place.releases, asks=True)
+    place: Place
+    hub: Hub
+    releases: Sequence[Path]
 
 
 @pytest.fixture(scope="module", params=(2, 3))
@@ -42,16 +39,14 @@ def made(tried: Place, request: pytest.FixtureRequest) -> Iterator[Made]:
     had, and terms with a CR."""
     layout: int = request.param
     place = tried.below(f"exports of layout {layout}")
-    package = rf2.Package(SEED)
-    rf2.write_package(str(place.releases / "full"), package, PACKAGE_ROWS)
-    new = rf2.delta(package, rf2.PACKAGE_DELTA_SORTS)
-    rf2.write(str(place.releases / "delta"), "Delta", rf2.DELTA_DATE, new)
+    rf2.make(place.releases, PACKAGE_ROWS, SEED, is_package=True)
     write_release(place.releases / "chains", CHAINS)
     shutil.copytree(place.releases / "delta", place.releases / "again")
-    names = ("full", "chains", "delta", "again")
-    found = Made(place, layout, [place.releases / name for name in names])
-    with found.hub:
-        yield found
+    store = place.make_store(layout=layout)
+    releases = [place.releases / name for name in ("full", "chains", "delta", "again")]
+    place.import_all(store, releases)
+    with Hub(place, store, releases=place.releases, asks=True) as hub:
+        yield Made(place, hub, releases)
 
 
 def printed(place: Place, hub: Hub, *words: str) -> bytes:
@@ -64,13 +59,6 @@ def printed(place: Place, hub: Hub, *words: str) -> bytes:
     return done.stdout
 
 
-def digest_by_files(layout: int, releases: Sequence[Path]) -> str:
-    """What examples/digest.py computes from releases."""
-    words = [sys.executable, str(TOP / DIGEST), *["--all"] * (layout == 3), *map(str, releases)]
-    done = subprocess.run(words, stdout=subprocess.PIPE, timeout=SECONDS, check=True)
-    return done.stdout.decode().strip()
-
-
 # ---- export.py
 
 
@@ -79,9 +67,9 @@ def test_exports(made: Made, pin: int) -> None:
     """The rows are those of the releases, and their SHA-256 is the store's digest, whatever the
     size of pages."""
     found = printed(made.place, made.hub, "--pin", str(pin), "--check")
-    digest, layout = hashlib.sha256(found).hexdigest(), 3 if b"\nM " in found else 2
+    digest, all_files = hashlib.sha256(found).hexdigest(), ["--all"] if b"\nM " in found else []
     assert made.hub.asker().ask(f"AT {pin} DIGEST") == [f"OK {digest}"]
-    assert digest == digest_by_files(layout, made.releases[:pin])
+    assert digest == made.place.digest_of(*all_files, *made.releases[:pin])
     for limit in ("7", "999"):
         assert printed(made.place, made.hub, "--pin", str(pin), "--limit", limit) == found
     if pin == len(made.releases):
@@ -116,8 +104,7 @@ def test_imports_beside_an_export(place: Place) -> None:
     (["--limit", "0"], "ROWS C - - 0 was answered ERR 43 Arguments"),
     (["--limit", "1001"], "ROWS C - - 1001 was answered ERR 43 Arguments")))
 def test_refused_exports(made: Made, words: list[str], why: str) -> None:
-    done = made.place.run_script(EXPORT, made.hub.questions, *words)
-    assert (done.returncode, done.stdout, done.stderr.decode()) == (1, b"", f"export: {why}\n")
+    ends_with(made.place.run_script(EXPORT, made.hub.questions, *words), f"export: {why}")
 
 
 def test_exports_that_nobody_reads(made: Made) -> None:
@@ -146,9 +133,8 @@ def test_exports_that_arent_whole(place: Place, count: int, why: str) -> None:
         listener.listen()
         hub = threading.Thread(target=answer, args=(listener, replies[:count]))
         hub.start()
-        done = place.run_script(EXPORT, place.path("false"), "--check")
+        ends_with(place.run_script(EXPORT, place.path("false"), "--check"), f"export: {why}")
         hub.join(HUB_SECONDS)
-    assert (done.returncode, done.stdout, done.stderr.decode()) == (1, b"", f"export: {why}\n")
 
 
 # ---- follow.py
@@ -259,14 +245,11 @@ def test_followers_of_another_store(place: Place, store: Path, names: list[str])
 def test_refused_followers(place: Place, store: Path, words: list[str], why: str) -> None:
     with Hub(place, store, asks=True) as hub:
         path = hub.questions if words else place.path("none")
-        done = place.run_script(FOLLOW, path, place.path("file"), *words)
-    assert done.returncode == 1 and done.stdout == b""
-    assert done.stderr.decode() == f"follow: {why.format(path)}\n"
+        ends_with(place.run_script(FOLLOW, path, place.path("file"), *words),
+                  f"follow: {why.format(path)}")
     assert rows_of(place.path("file")) == []
 
 
-def test_followers_whose_file_is_none(place: Place, store: Path) -> None:
+def test_followers_whose_file_is_none(hub: Hub, place: Place, store: Path) -> None:
     """Of SQLite."""
-    with Hub(place, store, asks=True) as hub:
-        done = place.run_script(FOLLOW, hub.questions, store)
-    assert (done.returncode, done.stderr) == (1, b"follow: file is not a database\n")
+    ends_with(place.run_script(FOLLOW, hub.questions, store), "follow: file is not a database")

@@ -121,11 +121,10 @@ def status(place: Place, store: Path) -> str:
 
 def stopped_import(place: Place, medium: Medium, release: str, sent: str) -> subprocess.Popen[str]:
     """An import that gets a signal at one of its syncs; the opening makes the first one."""
-    return subprocess.Popen(
-        ["strace", "-f", "-o", place.path("trace"), "-e", "trace=fsync", "-e",
-         f"inject=fsync:signal={sent}:when={CONTENT_SYNC}", place.program, "import", "--store",
-         medium.store, "--releases", RELEASES, release],
-        stdout=subprocess.PIPE, stderr=subprocess.DEVNULL, text=True)
+    return subprocess.Popen(["strace", "-f", "-o", place.path("trace"), "-e", "trace=fsync", "-e",
+                             f"inject=fsync:signal={sent}:when={CONTENT_SYNC}", place.program,
+                             "import", "--store", medium.store, "--releases", RELEASES, release],
+                            stdout=subprocess.PIPE, stderr=subprocess.DEVNULL, text=True)
 
 
 def wait_for_stop(trace: Path) -> int:
@@ -156,7 +155,7 @@ def test_failed_sync(place: Place) -> None:
         if not reply.startswith("ERR 2 "):
             pytest.skip(f"the medium took the block: {reply!r}")
         medium.accept()
-        opening.drop_pages(str(medium.store))
+        opening.drop_pages(str(medium.store), is_read_only=False)
         assert status(place, medium.store) == "OK 1 6 1 -"
         stopped_import(place, medium, "r3", "KILL").communicate()
         medium.mount_again()

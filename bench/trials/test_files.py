@@ -88,10 +88,9 @@ def store_of_r1(place: Place) -> tuple[Path, bytes]:
 
 def run_closed(place: Place, words: Sequence[str], closed: Sequence[int]) -> int:
     """Runs the program without some of its standard descriptors. Its status."""
-    done = subprocess.run(
-        [place.program, *words], cwd=place.folder, timeout=place.seconds, check=False,
-        stdin=subprocess.DEVNULL, stdout=subprocess.DEVNULL, stderr=subprocess.DEVNULL,
-        preexec_fn=partial(close_all, closed))
+    done = subprocess.run([place.program, *words], cwd=place.folder, timeout=place.seconds,
+                          check=False, stdin=subprocess.DEVNULL, stdout=subprocess.DEVNULL,
+                          stderr=subprocess.DEVNULL, preexec_fn=partial(close_all, closed))
     return done.returncode
 
 
@@ -130,14 +129,13 @@ def test_interrupted_calls(place: Place, library: Library, call: str) -> None:
 def test_limited_length(place: Place) -> None:
     """Where the system lets no file become so long, an import and a copy are refused, and leave the
     store as it was."""
-    store, before = store_of_r1(place)
-    short = limit(resource.RLIMIT_FSIZE, len(before) - 1)
+    store, content = store_of_r1(place)
+    short = limit(resource.RLIMIT_FSIZE, len(content) - 1)
     words = ("import", "--quiet", "--store", store, RELEASES / "r2")
-    refused(place.run(*words, before=short), FAILED, f"sctd: {store}: file too large")
-    assert store.read_bytes() == before
-    refused(place.run("copy", "--store", store, "--to", "copy", before=short), FAILED,
-            "sctd: copy: file too large")
-    assert not place.path("copy").exists()
+    fault = FAILED.strip()
+    place.refuses(words, fault, f"sctd: {store}: file too large\n", before=short)
+    place.refuses(["copy", "--store", store, "--to", "copy"], fault, "sctd: copy: file too large\n",
+                  before=short)
     assert place.done(*words) == "OK 2 4 0"
 
 

@@ -22,7 +22,7 @@ from typing import NamedTuple
 
 import pytest
 
-from harness import TOP, Place, Ran, Server, mode
+from harness import TOP, Place, Server, mode
 
 # How long a call may take.
 SECONDS = 10
@@ -68,7 +68,8 @@ PARTS = "no folder Terminology or Refset/Content in it"
 PACKAGE = TOP / "docs" / "package" / "Full"
 CALLED = "0 CALLED 2000001 20200630 900000000000509007\n"
 TERM = b"Path"
-MISSING, FAILED = "ERR 45 NoFolder", "ERR 2 DiskFault"
+MISSING, FAILED, DAMAGED = "ERR 45 NoFolder", "ERR 2 DiskFault", "ERR 8 Damaged"
+IMPORT = ("import", "--quiet", "--store", "store", "--releases", "releases")
 
 # What stands at a path: a text, or what makes it.
 Made = str | Callable[[Path], object]
@@ -113,68 +114,70 @@ def store(place: Place) -> Path:
     return place.path("store")
 
 
-def refused(ran: Ran, reply: str, why: str, warnings: Sequence[str] = ()) -> None:
-    """It was refused by this reply, with this in the last line of standard error, and before it a
-    line for each warning, which it begins with."""
-    *warned, last = ran.faults.splitlines() or [""]
-    assert ran[:2] == (1, reply + "\n")
-    assert why in last + "\n"
-    assert len(warned) == len(warnings)
-    assert all(line.startswith(head) for line, head in zip(warned, warnings)), warned
+# ---- What is refused
 
 
-def imported(place: Place, *words: str | Path) -> Ran:
-    return place.run("import", "--quiet", "--store", "store", "--releases", "releases", *words)
+class Mistake(NamedTuple):
+    """The words of a call, why it is refused, by which reply and behind which warnings; and what is
+    there beside a store of a layout and the releases."""
 
-
-# ---- Folders that are no release
-
-
-class Folder(NamedTuple):
-    """What is in a folder of releases, which one is imported, and why that is refused."""
-
-    files: Files
-    name: str
+    words: Sequence[str]
     why: str
     reply: str = MISSING
-    warnings: Sequence[str] = ()
-    layout: int = 2
+    files: Files = {}
+    warned: Sequence[str] = ()
+    layout: int = 3
 
 
-def package(inner: str) -> Folder:
+def of_release(files: Files, name: str, why: str, reply: str = MISSING, warned: Sequence[str] = (),
+               layout: int = 2) -> Mistake:
+    """The import of a folder that is no release."""
+    there = {f"releases/{path}": made for path, made in files.items()}
+    return Mistake([*IMPORT, name], why, reply, there, warned, layout)
+
+
+def package(inner: str) -> Mistake:
     """A package's top folder."""
     path = f"{inner}/Terminology/{CONCEPTS}"
-    return Folder({f"package/{path}": ROWS}, "package", f"{PARTS}; its folder {inner}",
-                  warnings=[OUT_OF_PLACE % path])
+    return of_release({f"package/{path}": ROWS}, "package", f"{PARTS}; its folder {inner}",
+                      warned=[OUT_OF_PLACE % path])
 
 
-def half(part: str, whole: str) -> Folder:
+def half(part: str, whole: str) -> Mistake:
     """A release of which one folder is a link that leads nowhere."""
-    return Folder({f"half/{whole}/{CONCEPTS}": ROWS, f"half/{part}": dangling}, "half",
-                  "leads nowhere")
+    files: Files = {f"half/{whole}/{CONCEPTS}": ROWS, f"half/{part}": dangling}
+    return of_release(files, "half", "leads nowhere")
 
 
-def in_terminology(made: Made, why: str, reply: str = MISSING) -> Folder:
-    return Folder({f"r/Terminology/{CONCEPTS}": made}, "r", why, reply)
+def in_terminology(made: Made, why: str, reply: str = MISSING) -> Mistake:
+    return of_release({f"r/Terminology/{CONCEPTS}": made}, "r", why, reply)
 
 
-def in_refset(path: str, made: Made, why: str) -> Folder:
+def in_refset(path: str, made: Made, why: str) -> Mistake:
     """A package, of which all is read, with something in Refset."""
     files: Files = {f"r/Terminology/{CONCEPTS}": ROWS, "r/Refset/Map/readme.txt": "",
-             "r/Refset/Language": Path.mkdir, f"r/Refset/{path}": made}
-    return Folder(files, "r", why, layout=3)
+                    "r/Refset/Language": Path.mkdir, f"r/Refset/{path}": made}
+    return of_release(files, "r", why, layout=3)
 
 
-FOLDERS = {
-    "a wrong name": Folder({}, "absent", "releases/absent: no such folder"),
+FORGED = "store\nsctd: all is well\x1b[2J\r"
+SHOWN = "store\\nsctd: all is well\\u{1b}[2J\\r"
+# Files that are no store or can't be had, what is told of each, and what is tried with them.
+STORES = {"a wrong path": ("absent", "No such file"),
+          "a wrong folder": ("absent/store", "No such file"),
+          "a folder": ("folder", "Is a directory"), "a FIFO": ("pipe", "not a regular file"),
+          "a full device": ("/dev/full", "not a regular file")}
+TASKS = ("import --releases releases r1", "serve --releases releases", "init")
+MISTAKES = {
+    "a wrong name": of_release({}, "absent", "releases/absent: no such folder"),
     "a package's top folder, Full": package("Full"),
     "a package's top folder, Delta": package("Delta"),
-    "a zip": Folder({"packed.zip": "PK"}, "packed.zip", "unpack the release"),
-    "a slash before it": Folder({}, "/r1", "one / between", "ERR 43 Arguments"),
-    "a lower-case folder": Folder(
+    "a zip": of_release({"packed.zip": "PK"}, "packed.zip", "unpack the release"),
+    "a slash before it": of_release({}, "/r1", "one / between", "ERR 43 Arguments"),
+    "a lower-case folder": of_release(
         {f"small/terminology/{CONCEPTS}": COLUMNS}, "small", "releases/small: " + PARTS,
-        warnings=[OUT_OF_PLACE % f"terminology/{CONCEPTS}"]),
-    "no file to take": Folder({"none/Terminology/readme.txt": ""}, "none", "no file to take"),
+        warned=[OUT_OF_PLACE % f"terminology/{CONCEPTS}"]),
+    "no file to take": of_release({"none/Terminology/readme.txt": ""}, "none", "no file to take"),
     "a faulty line": in_terminology(COLUMNS + "?\n", f"{CONCEPTS}, line 2: ",
                                     "ERR 23 Columns 1 2"),
     "two rows of one id and date": in_terminology(
@@ -187,8 +190,8 @@ FOLDERS = {
     "a dangling Terminology": half("Terminology", "Refset/Content"),
     "a dangling Refset": half("Refset", "Terminology"),
     "a dangling Refset/Content": half("Refset/Content", "Terminology"),
-    "a dangling release": Folder({"gone": dangling}, "gone", "leads nowhere"),
-    "a name that isn't UTF-8": Folder(
+    "a dangling release": of_release({"gone": dangling}, "gone", "leads nowhere"),
+    "a name that isn't UTF-8": of_release(
         {"r/Terminology/caf\udce9\n.txt": ""}, "r",
         "the name of a file in it isn't UTF-8: caf\\xe9\\n.txt\n"),
     "a FIFO in Refset": in_refset(f"Language/{LANGUAGE}", os.mkfifo, "not a regular file"),
@@ -197,16 +200,42 @@ FOLDERS = {
     "a misnamed file in Refset": in_refset("Language/\udcff.txt", "", "isn't UTF-8: \\xff.txt"),
     "a misnamed folder in Refset": in_refset("\udcff", Path.mkdir, "isn't UTF-8: \\xff"),
     "a dangling folder in Refset": in_refset("Metadata", dangling, "Metadata: a link that leads"),
+    # (A path without a folder of releases.)
+    "a wrong path": Mistake(["import", "--store", "store", "absent/"],
+                            "sctd: ./absent: no such folder"),
+    "a wrong path of a release": Mistake(["import", "--store", "store", "releases/absent"],
+                                         "sctd: releases/absent: no such folder"),
+    # Paths with control characters make no line of their own on standard error.
+    "a forged path of a new store": Mistake(["init", "--store", "absent/" + FORGED],
+                                            f"sctd: absent/{SHOWN}: No such file", FAILED),
+    "a forged path of a store": Mistake(["status", "--store", "absent/" + FORGED],
+                                        f"sctd: absent/{SHOWN}: No such file", FAILED),
+    "a forged folder": Mistake(["serve", "--store", "store", "--releases", FORGED],
+                               f"sctd: {SHOWN}: No such file"),
+    "a mistyped folder": Mistake(["serve", "--store", "store", "--releases", "relaeses"],
+                                 "sctd: relaeses: No such file"),
+    "a text as a folder": Mistake(["serve", "--store", "store", "--releases", "text"],
+                                  "sctd: text: not a folder", files={"text": "no store"}),
+    "a store that is there": Mistake(["init", "--store", "store"], "store: the file isn't empty",
+                                     "ERR 4 NotEmpty"),
+    "a text as a store": Mistake(["serve", "--store", "text", "--releases", "releases"],
+                                 "text: the file is no store", "ERR 7 NotAStore",
+                                 {"text": "no store"}),
+    # (`init` makes a store where there is nothing.)
+    **{f"{words.split()[0]} with {what} as a store": Mistake(
+        [*words.split(), "--store", path], f"{path}: {why}", FAILED,
+        {"pipe": os.mkfifo, "folder": Path.mkdir})
+       for words in TASKS for what, (path, why) in STORES.items()
+       if (words, what) != ("init", "a wrong path")},
 }
 
 
-@pytest.mark.parametrize("folder", FOLDERS.values(), ids=FOLDERS.keys())
-def test_folders(place: Place, folder: Folder) -> None:
-    """What is no release is refused, and the store left as it was."""
-    write(place.releases, folder.files)
-    before = place.make_store(layout=folder.layout).read_bytes()
-    refused(imported(place, folder.name), folder.reply, folder.why, folder.warnings)
-    assert place.path("store").read_bytes() == before
+@pytest.mark.parametrize("mistake", MISTAKES.values(), ids=MISTAKES.keys())
+def test_mistakes(place: Place, mistake: Mistake) -> None:
+    """What can't be done is refused, why is told, and all files are left as they were."""
+    place.make_store(layout=mistake.layout)
+    write(place.folder, mistake.files)
+    place.refuses(mistake.words, mistake.reply, mistake.why, mistake.warned)
 
 
 @pytest.mark.parametrize("words", (
@@ -221,12 +250,17 @@ def test_names(place: Place, store: Path, words: Sequence[str]) -> None:
     assert place.run("import", "--quiet", "--store", store, *named) == (0, "OK 1 1 0\n", "")
 
 
-@pytest.mark.parametrize("path, told", (("absent/", "./absent"),
-                                        ("releases/absent", "releases/absent")))
-def test_wrong_paths(place: Place, store: Path, path: str, told: str) -> None:
-    before = store.read_bytes()
-    refused(place.run("import", "--store", store, path), MISSING, f"sctd: {told}: no such folder")
-    assert store.read_bytes() == before
+def test_forged_names(place: Place) -> None:
+    """Nor does the name of a store, or of a file of a release, make a line of its own."""
+    assert place.run("init", "--store", FORGED) == (0, "OK\n", "")
+    faults = place.run("status", "--store", FORGED).faults
+    assert faults.startswith(f"sctd: {SHOWN}: layout 3, ") and faults.count("\n") == 1
+    name = CONCEPTS.replace(".txt", "\nsctd: took it.txt")
+    write(place.releases, {f"forged/Terminology/{name}": COLUMNS + "?\n"})
+    ran = place.run("import", "--store", FORGED, "releases/forged")
+    assert ran.output == "ERR 23 Columns 1 2\n"
+    assert "\nsctd: took it" not in ran.faults
+    assert CONCEPTS.replace(".txt", "\\nsctd: took it.txt, line 2: ") in ran.faults
 
 
 # ---- What an import tells
@@ -252,103 +286,77 @@ def test_telling(place: Place, store: Path, is_quiet: bool) -> None:
     assert not any(line.startswith("sctd: forged") for line in lines)
 
 
-def test_few_kinds(place: Place, store: Path) -> None:
-    write(place.releases / "few", {ASSOCIATIONS: ASSOCIATION_COLUMNS})
-    told = "sctd: warning: no Concept, Description or Relationship file was taken\n"
-    assert place.run("import", "--quiet", "--store", store, "releases/few")[::2] == (0, told)
+# A Full release with concepts and no descriptions, and files that stand in other folders.
+LACKING = {f"Full/Terminology/{FULL_CONCEPTS}": ROWS, f"Full/terminology/{CONCEPTS}": COLUMNS}
+LACKED = [OUT_OF_PLACE % f"terminology/{CONCEPTS}"
+          + "a release has it in Terminology or a folder of Refset"]
+LACKED += [f"sctd: warning: a Full file of concepts was taken, and no {kind} file"
+           for kind in ("Description", "Relationship", "Refset")]
 
 
-def test_lacking(place: Place, store: Path) -> None:
-    """A Full release with concepts and no descriptions, and files that stand in other folders."""
-    write(place.releases / "lacking", {f"Full/Terminology/{FULL_CONCEPTS}": ROWS,
-                                       f"Full/terminology/{CONCEPTS}": COLUMNS})
-    told = OUT_OF_PLACE % f"terminology/{CONCEPTS}"
-    told += "a release has it in Terminology or a folder of Refset\n"
-    for kind in ("Description", "Relationship", "Refset"):
-        told += f"sctd: warning: a Full file of concepts was taken, and no {kind} file\n"
-    ran = place.run("import", "--quiet", "--store", store, "releases/lacking/Full")
-    assert ran[::2] == (0, told)
+@pytest.mark.parametrize("files, name, told", (
+    ({ASSOCIATIONS: ASSOCIATION_COLUMNS}, "made",
+     ["sctd: warning: no Concept, Description or Relationship file was taken"]),
+    (LACKING, "made/Full", LACKED)), ids=("few kinds", "no descriptions"))
+def test_lacking(place: Place, store: Path, files: Files, name: str, told: Sequence[str]) -> None:
+    write(place.releases / "made", files)
+    ran = place.run("import", "--quiet", "--store", store, "releases/" + name)
+    assert (ran.status, ran.faults.splitlines()) == (0, told)
 
 
-def import_told(place: Place, store: Path, files: Files, reply: str, *lines: str) -> list[str]:
-    """An import of a concept and of files beside it, which has to be answered so, and to tell these
-    lines among others. The warnings that it tells."""
-    write(place.releases / "package", {f"Terminology/{CONCEPTS}": ROWS, **files})
-    ran = place.run("import", "--store", store, "--releases", "releases", "package")
-    told = ran.faults.splitlines()
-    assert ran[:2] == (0, reply + "\n")
-    assert [line for line in lines if "sctd: " + line not in told] == []
-    return [line for line in told if "warning" in line]
+class Taken(NamedTuple):
+    """Files beside a concept, what their import is answered, and of what it tells lines of a kind
+    and what warnings begin with; and the layout of the store."""
+
+    files: Files
+    reply: str = "OK 1 1 0"
+    told: Sequence[str] = ()
+    warned: Sequence[str] = ()
+    layout: int = 3
 
 
 WHOLE = {f"Refset/Language/{LANGUAGE}": LANGUAGE_ROWS,
          f"Terminology/{DEFINITIONS}": DEFINITION_ROWS}
-PASSED_OVER = [f"passed over {name}" for name in WHOLE]
-TAKEN = [f"took {LANGUAGE}: Refset, rows: 1", f"took {DEFINITIONS}: Description, rows: 1"]
+BETA = f"Refset/Language/x{LANGUAGE}"
+TAKEN = {
+    "a whole package": Taken(WHOLE, "OK 1 3 0", [
+        f"took {LANGUAGE}: Refset, rows: 1", f"took {DEFINITIONS}: Description, rows: 1"]),
+    "a part of it": Taken(WHOLE, told=[f"passed over {name}" for name in WHOLE], layout=2),
+    "a beta release": Taken({BETA: LANGUAGE_ROWS},
+                            warned=[f"sctd: warning: passed over {BETA}, "]),
+    # Of a package that is read whole.
+    "what is no folder of Refset": Taken(
+        {"Refset/Language": "", "Refset/Content/readme.txt": "", "Refset/fifo": os.mkfifo},
+        told=["passed over Refset/Language", "passed over Refset/fifo"]),
+    # Folders in which no package has such a file.
+    **{f"a file in {folder}": Taken({f"{folder}/{LANGUAGE}": LANGUAGE_ROWS},
+                                    warned=[OUT_OF_PLACE % f"{folder}/{LANGUAGE}"])
+       for folder in ("Refset", "refset/Language", "Language", "Refset/Language/en")},
+}
 
 
-@pytest.mark.parametrize("layout, reply, told", (
-    (2, "OK 1 1 0", PASSED_OVER), (3, "OK 1 3 0", TAKEN)))
-def test_packages(place: Place, layout: int, reply: str, told: Sequence[str]) -> None:
-    """A whole package, which a store of layout 2 takes in part."""
-    store = place.make_store(layout=layout)
-    assert import_told(place, store, WHOLE, reply, *told) == []
-    if layout == 2:
-        copied = place.copy(store, "copied", layout=3)
-        assert import_told(place, copied, WHOLE, "OK 2 2 1") == []
+def takes(place: Place, store: Path, taken: Taken) -> None:
+    write(place.releases / "package", {f"Terminology/{CONCEPTS}": ROWS, **taken.files})
+    ran = place.run("import", "--store", store, "--releases", "releases", "package")
+    lines = ran.faults.splitlines()
+    assert ran[:2] == (0, taken.reply + "\n")
+    assert [line for line in taken.told if "sctd: " + line not in lines] == []
+    warnings = [line for line in lines if "warning" in line]
+    assert len(warnings) == len(taken.warned)
+    assert all(line.startswith(head) for line, head in zip(warnings, taken.warned)), warnings
 
 
-@pytest.mark.parametrize("folder", ("Refset", "refset/Language", "Language", "Refset/Language/en"))
-def test_misplaced(place: Place, folder: str) -> None:
-    """Files of a package in a folder in which no package has them."""
-    path = f"{folder}/{LANGUAGE}"
-    warned = import_told(place, place.make_store(layout=3), {path: LANGUAGE_ROWS}, "OK 1 1 0")
-    assert [line.startswith(OUT_OF_PLACE % path) for line in warned] == [True]
+@pytest.mark.parametrize("taken", TAKEN.values(), ids=TAKEN.keys())
+def test_taken(place: Place, taken: Taken) -> None:
+    """Which files an import takes, and what it tells of them and of others."""
+    takes(place, place.make_store(layout=taken.layout), taken)
 
 
-def test_beta_release(place: Place) -> None:
-    path = f"Refset/Language/x{LANGUAGE}"
-    warned = import_told(place, place.make_store(layout=3), {path: LANGUAGE_ROWS}, "OK 1 1 0")
-    assert any(line.startswith(f"sctd: warning: passed over {path}, ") for line in warned), warned
-
-
-def test_no_folder_in_refset(place: Place) -> None:
-    """What stands in Refset and isn't a folder, of a package that is read whole."""
-    files: Files = {
-        "Refset/Language": "", "Refset/Content/readme.txt": "", "Refset/fifo": os.mkfifo}
-    import_told(place, place.make_store(layout=3), files, "OK 1 1 0",
-                "passed over Refset/Language", "passed over Refset/fifo")
-
-
-# ---- Names with control characters
-
-FORGED = "store\nsctd: all is well\x1b[2J\r"
-SHOWN = "store\\nsctd: all is well\\u{1b}[2J\\r"
-
-
-@pytest.mark.parametrize("words, reply, told", (
-    (["init", "--store", "absent/" + FORGED], FAILED, "absent/" + SHOWN),
-    (["status", "--store", "absent/" + FORGED], FAILED, "absent/" + SHOWN),
-    (["serve", "--store", "store", "--releases", FORGED], MISSING, SHOWN)))
-def test_forged_paths(place: Place, store: Path, words: Sequence[str], reply: str,
-                      told: str) -> None:
-    """Paths with control characters make no line of their own on standard error."""
-    before = store.read_bytes()
-    refused(place.run(*words), reply, f"sctd: {told}: No such file")
-    assert store.read_bytes() == before
-
-
-def test_forged_names(place: Place) -> None:
-    """Nor does the name of a store, or of a file of a release."""
-    assert place.run("init", "--store", FORGED) == (0, "OK\n", "")
-    faults = place.run("status", "--store", FORGED).faults
-    assert faults.startswith(f"sctd: {SHOWN}: layout 3, ") and faults.count("\n") == 1
-    name = CONCEPTS.replace(".txt", "\nsctd: took it.txt")
-    write(place.releases, {f"forged/Terminology/{name}": COLUMNS + "?\n"})
-    ran = place.run("import", "--store", FORGED, "releases/forged")
-    assert ran.output == "ERR 23 Columns 1 2\n"
-    assert "\nsctd: took it" not in ran.faults
-    assert CONCEPTS.replace(".txt", "\\nsctd: took it.txt, line 2: ") in ran.faults
+def test_the_rest_of_a_package(place: Place) -> None:
+    """What a store of layout 2 passed over is taken by a copy of it."""
+    store = place.make_store()
+    takes(place, store, TAKEN["a part of it"])
+    takes(place, place.copy(store, "copied", layout=3), Taken(WHOLE, "OK 2 2 1"))
 
 
 # ---- Rights, the help, the demonstration
@@ -387,11 +395,11 @@ def test_first_session(place: Place, words: Sequence[str], is_usual: bool) -> No
     found = bytearray(store.read_bytes())
     found[found.index(TERM)] ^= 1
     store.write_bytes(found)
-    ran = place.run("status", "--store", store)
+    look: list[str | Path] = ["status", "--store", store]
     if is_usual:
-        refused(ran, "ERR 8 Damaged", "the store is damaged: segment 1; restore your copy")
+        place.refuses(look, DAMAGED, "the store is damaged: segment 1; restore your copy")
     else:
-        assert ran.status == 0
+        assert place.run(*look).status == 0
 
 
 def test_help(place: Place) -> None:
@@ -447,49 +455,18 @@ def test_demonstration_on_a_terminal(place: Place) -> None:
     assert shown.decode().replace("\r\n", "\n").splitlines() == demonstrated()
 
 
-# ---- Files that are no store, or can't be had
-
-STORES = {
-    "a wrong path": ("absent", "No such file"), "a wrong folder": ("absent/store", "No such file"),
-    "a folder": ("folder", "Is a directory"), "a FIFO": ("pipe", "not a regular file"),
-    "a full device": ("/dev/full", "not a regular file"),
-}
-TASKS = ("import --releases releases r1", "serve --releases releases", "init")
-
-
-# (`init` makes a store where there is nothing.)
-@pytest.mark.parametrize("words, what", [(words, what) for words in TASKS for what in STORES
-                                         if (words, what) != ("init", "a wrong path")])
-def test_stores(place: Place, words: str, what: str) -> None:
-    path, why = STORES[what]
-    write(place.folder, {"pipe": os.mkfifo, "folder": Path.mkdir})
-    refused(place.run(*words.split(), "--store", path), FAILED, f"{path}: {why}")
-    assert not place.path("absent").exists()
-
-
-@pytest.mark.parametrize("words, reply, why", (
-    (["serve", "--store", "store", "--releases", "relaeses"], MISSING,
-     "sctd: relaeses: No such file"),
-    (["serve", "--store", "store", "--releases", "text"], MISSING, "sctd: text: not a folder"),
-    (["init", "--store", "store"], "ERR 4 NotEmpty", "store: the file isn't empty"),
-    (["serve", "--store", "text", "--releases", "releases"], "ERR 7 NotAStore",
-     "text: the file is no store")))
-def test_wrong_words(place: Place, store: Path, words: Sequence[str], reply: str, why: str) -> None:
-    before = store.read_bytes()
-    place.path("text").write_text("no store", encoding="ascii")
-    refused(place.run(*words), reply, why)
-    assert store.read_bytes() == before
+# ---- What the system doesn't give
 
 
 @pytest.mark.skipif(os.geteuid() == 0, reason="root may read everything")
 def test_no_permission(place: Place, store: Path) -> None:
     folder = place.releases / "r1" / "Terminology"
     folder.chmod(0o200)
-    refused(imported(place, "r1"), MISSING, "Permission denied")
+    place.refuses([*IMPORT, "r1"], MISSING, "Permission denied")
     folder.chmod(0o700)
     store.chmod(0)
-    refused(place.run("serve", "--store", "store", "--releases", "releases"), FAILED,
-            "store: Permission denied")
+    assert place.run("serve", "--store", "store", "--releases", "releases") == (
+        1, FAILED + "\n", "sctd: store: Permission denied (os error 13)\n")
 
 
 def test_a_full_disk(place: Place, small_disk: Path) -> None:
@@ -499,9 +476,7 @@ def test_a_full_disk(place: Place, small_disk: Path) -> None:
     room = os.statvfs(small_disk)
     other.write_bytes(bytes(room.f_bavail * room.f_frsize))
     words = ("import", "--quiet", "--store", "small/store", "--releases", "releases", "r1")
-    before = place.path("small/store").read_bytes()
-    refused(place.run(*words), FAILED, "small/store: No space left")
-    assert place.path("small/store").read_bytes() == before
+    place.refuses(words, FAILED, "small/store: No space left")
     other.unlink()
     assert place.run(*words)[:2] == (0, "OK 1 1 0\n")
 
@@ -539,7 +514,7 @@ def test_replaced(place: Place, store: Path, change: Callable[[Path], object],
                   left: str | None) -> None:
     """Another file is put in the place of a store that is served, or the file goes or is cut: an
     import is refused, and why is told. What the path leads to then is left as it is."""
-    assert imported(place, "r1")[:2] == (0, "OK 1 1 0\n")
+    assert place.done(*IMPORT, "r1") == "OK 1 1 0"
     with Server(place, "store", place.releases) as server:
         assert server.ask("STATUS") == ["OK 1 1 1 -"]
         change(store)

@@ -6,8 +6,7 @@ from pathlib import Path
 
 import pytest
 
-from harness import HUB, RELEASES, Hub, Place, Ran
-from test_duties import TRACE, has_strace
+from harness import HUB, RELEASES, TRACE, Hub, Place, Ran, has_strace
 
 SETTINGS = """# A comment
 [hub]
@@ -26,11 +25,9 @@ WRONG_SETTINGS = {
     "a number that isn't allowed": ("[hub]\nmerge-above = 251\n", "it isn't 1 to 250"),
     "a table that no command has": ("[hbu]\nmerge-above = 7\n", "hbu is neither [hub] nor"),
     "a key in no table": ("merge-above = 7\n", "merge-above is neither [hub] nor"),
-    "a value that no option has": (
-        "[hub]\nmerge-above = 7.5\n", "merge-above is no text, number"),
+    "a value that no option has": ("[hub]\nmerge-above = 7.5\n", "merge-above is no text, number"),
     "what isn't TOML": ("[hub]\nmerge-above: 7\n", "(at line 2, column 12)"),
-    "none": (None, "No such file or directory"),
-}
+    "none": (None, "No such file or directory")}
 
 
 def ended(place: Place, store: Path, *words: str) -> Ran:
@@ -60,13 +57,15 @@ def test_first_start(place: Place, home: Path) -> None:
         assert own.ask("STATUS") == ["OK 0 0 0 -"]
         assert own.ask("IMPORT r1") == ["OK 1 6 0"]
         assert hub.told().split("\n")[0] == f"hub: {store}: a new store"
-    assert files(home) == ["a.store", "first-start", "releases"]
+    assert files(home) == ["a.store", "a.store.imports", "first-start", "releases"]
     assert ": layout 3, " in place.run("status", "--store", store).faults
     with Hub(place, store, "--make-store") as hub:
         assert hub.client().ask("STATUS") == ["OK 1 6 1 -"]
     store.unlink()
-    said = f"hub: {store}: there is no such file, and no store is made beside first-start\n"
-    assert ended(place, store, "--make-store") == (1, "", said)
+    said = f"hub: {store}: there is no such file, and no store is made beside "
+    assert ended(place, store, "--make-store") == (1, "", said + "a.store.imports\n")
+    (home / "a.store.imports").unlink()
+    assert ended(place, store, "--make-store") == (1, "", said + "first-start\n")
     assert files(home) == ["first-start", "releases"]
     assert ended(place, store)[:2] == (1, "ERR 2 DiskFault\n")
 

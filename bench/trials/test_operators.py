@@ -15,15 +15,13 @@ import random
 import re
 import shutil
 import subprocess
-import sys
 import time
 from collections.abc import Iterator, Sequence
 from pathlib import Path
-from typing import NamedTuple
 
 import pytest
 
-from harness import BLOCK, FIRST_ROW, RELEASES, SECONDS, TOP, Place, Ran, Server, concept
+from harness import BLOCK, FIRST_ROW, RELEASES, SECONDS, Place, Ran, Server, concept
 from harness import concept_id, flip, mode, put_back, write_release
 import make_release as rf2
 
@@ -42,7 +40,7 @@ KNOWN_ROWS = 5_000
 DATE, LATER = "20220131", "20220731"
 # More than a year after all others.
 FAR = "20300131"
-DAMAGED = ["ERR 8 Damaged"]
+DAMAGED, FAULT = ["ERR 8 Damaged"], "ERR 2 DiskFault"
 # The row of the guide's releases that stands first in the first segment, and another one.
 FIRST_QUESTION = "GET C 1000004 20200131"
 OTHER_QUESTION = "GET C 2000001 20210131"
@@ -67,22 +65,9 @@ MAP_ROW = ("0b6a0c2e-5d0f-4c53-9f6e-8d9d2a7b1c%02x\t20250131\t1\t900000000000207
 LINE_ENDS = ("\n", "\r\n", "\r\r\n", "\r")
 
 
-def write_edition(folder: Path, count: int = DIGEST_ROWS) -> tuple[Path, Path]:
-    """A Full release of about so many rows of every kind, and a Delta of a hundred rows to it."""
-    edition = rf2.Edition(SEED)
-    full, delta = folder / "full", folder / "delta"
-    rf2.write(str(full), "Full", "20250731", rf2.full(edition, count))
-    rf2.write(str(delta), "Delta", "20260131", rf2.delta(edition))
-    return full, delta
-
-
-def write_package(folder: Path) -> tuple[Path, Path]:
-    """The same of all sorts of files of a package."""
-    package = rf2.Package(SEED)
-    full, delta = folder / "full", folder / "delta"
-    rf2.write_package(str(full), package, DIGEST_ROWS)
-    rf2.write(str(delta), "Delta", rf2.DELTA_DATE, rf2.delta(package, rf2.PACKAGE_DELTA_SORTS))
-    return full, delta
+def made(place: Place, is_package: bool = False, rows: int = DIGEST_ROWS) -> list[Path]:
+    """A Full release, also of all sorts of files of a package, and a Delta to it."""
+    return list(rf2.make(place.path("made"), rows, SEED, is_package)[:2])
 
 
 def basic_files(release: Path, to: Path) -> Path:
@@ -92,14 +77,6 @@ def basic_files(release: Path, to: Path) -> Path:
         copy.parent.mkdir(parents=True, exist_ok=True)
         shutil.copy(path, copy)
     return to
-
-
-def digest_of(*releases: Path | str) -> str:
-    """The digest that examples/digest.py computes from releases; those behind `--all` were imported
-    into a store that keeps all their files."""
-    words: list[Path | str] = [sys.executable, TOP / "examples" / "digest.py", *releases]
-    done = subprocess.run(words, stdout=subprocess.PIPE, timeout=SECONDS, check=True)
-    return done.stdout.decode().rstrip("\n")
 
 
 # ---- A release that is tried before it counts
@@ -183,9 +160,8 @@ def test_contradictions(place: Place) -> None:
     store = store_of_halves(place, first, second)
     places, more = contradictions_told(place, store, range(1, 7))
     others = [line.partition(" of the same id and date: ")[2] for line in places]
-    assert others == [
-        "import %d brought %s" % (number, concept(one, DATE).replace("\t", "\\t"))
-        for number, half in ((1, first), (2, range(4, 7))) for one in half]
+    assert others == ["import %d brought %s" % (number, concept(one, DATE).replace("\t", "\\t"))
+                      for number, half in ((1, first), (2, range(4, 7))) for one in half]
     assert more == []
     places, more = contradictions_told(place, store, range(1, MOST_TOLD + 6))
     assert len(places) == MOST_TOLD
@@ -265,7 +241,7 @@ def test_wrong_release(place: Place, layout: int, segments: int) -> None:
     assert reports(place, store, 3) == before
     assert place.digest(store, 3) == digest
     small = [RELEASES / name for name in ("r1", "r2", "r3")]
-    assert place.digest(store) == digest_of(*small, right)
+    assert place.digest(store) == place.digest_of(*small, right)
 
 
 # ---- Copies
@@ -295,73 +271,46 @@ def test_whole_copies(place: Place) -> None:
         assert reports(place, copy, count) == reports(place, store, count)
 
 
-class Refusal(NamedTuple):
-    """A copy that is refused: what it is asked for, how it is answered, and what is told."""
-
-    store: str
-    to: str
-    reply: str
-    why: str
-    more: Sequence[str] = ()
-
-
-IS_THERE = "ERR 2 DiskFault", "File exists"
+# Copies that are refused: of which store, to where, how that is answered, and why.
+IS_THERE = FAULT, "File exists"
 REFUSED = {
-    "onto a file": Refusal("store", "text", *IS_THERE),
-    "onto an empty file": Refusal("store", "nothing", *IS_THERE),
-    "onto itself": Refusal("store", "store", *IS_THERE),
-    "onto a link to itself": Refusal("store", "link", *IS_THERE),
-    "onto a link that leads nowhere": Refusal("store", "dangling", *IS_THERE),
-    "onto a folder": Refusal("store", "releases", *IS_THERE),
-    "into no folder": Refusal("store", "absent/new", "ERR 2 DiskFault", "No such file"),
-    "of more imports than there are": Refusal(
-        "store", "new", "ERR 44 PinRange", "fewer imports", ("--imports", "4")),
-    "of a file that isn't there": Refusal("absent", "new", "ERR 2 DiskFault", "No such file"),
-    "of a text": Refusal("text", "new", "ERR 7 NotAStore", "the file is no store"),
-    "of a damaged store": Refusal("damaged", "new", "ERR 8 Damaged", "segment 1"),
-}
+    "onto a file": ("store", "text", *IS_THERE),
+    "onto an empty file": ("store", "nothing", *IS_THERE),
+    "onto itself": ("store", "store", *IS_THERE),
+    "onto a link to itself": ("store", "link", *IS_THERE),
+    "onto a link that leads nowhere": ("store", "dangling", *IS_THERE),
+    "onto a folder": ("store", "releases", *IS_THERE),
+    "into no folder": ("store", "absent/new", FAULT, "No such file"),
+    "of more imports than there are": (
+        "store", "new --imports 4", "ERR 44 PinRange", "fewer imports"),
+    "of a file that isn't there": ("absent", "new", FAULT, "No such file"),
+    "of a text": ("text", "new", "ERR 7 NotAStore", "the file is no store"),
+    "of a damaged store": ("damaged", "new", "ERR 8 Damaged", "segment 1")}
 
 
-def copy_is_refused(place: Place, refusal: Refusal) -> None:
-    """Both files stay as they were."""
-    before = place.contents()
-    ran = place.run("copy", "--store", refusal.store, "--to", refusal.to, *refusal.more)
-    assert ran[:2] == (1, refusal.reply + "\n")
-    assert ran.faults.startswith("sctd: ") and ran.faults.count("\n") == 1
-    assert refusal.why in ran.faults
-    assert place.contents() == before
-
-
-def make_odd_files(place: Place) -> Path:
-    """A store, and files that a copy may meet."""
-    store = place.small_store()
+@pytest.mark.parametrize("store, to, reply, why", REFUSED.values(), ids=REFUSED.keys())
+def test_refused_copies(place: Place, store: str, to: str, reply: str, why: str) -> None:
+    """A copy that is refused says why, and leaves both files as they were."""
+    content = place.small_store().read_bytes()
     place.path("text").write_text("no store", encoding="ascii")
     place.path("nothing").touch()
     place.path("link").symlink_to("store")
     place.path("dangling").symlink_to("new")
-    place.path("damaged").write_bytes(store.read_bytes())
+    place.path("damaged").write_bytes(content)
     flip(place.path("damaged"))
-    return store
-
-
-@pytest.mark.parametrize("refusal", REFUSED.values(), ids=REFUSED.keys())
-def test_refused_copies(place: Place, refusal: Refusal) -> None:
-    """A copy that is refused says why, and leaves both files as they were."""
-    make_odd_files(place)
-    copy_is_refused(place, refusal)
+    place.refuses(["copy", "--store", store, "--to", *to.split()], reply, why)
 
 
 def test_copies_of_a_served_store(place: Place) -> None:
     with Server(place, place.small_store()) as server:
         assert server.ask("STATUS") == ["OK 3 12 3 -"]
-        copy_is_refused(place, Refusal("store", "new", "ERR 2 DiskFault", "in use by another"))
+        place.refuses(["copy", "--store", "store", "--to", "new"], FAULT, "in use by another")
 
 
 def test_full_disk(place: Place, small_disk: Path) -> None:
     """A copy that the disk has no room for is refused, and none is left."""
-    full, _ = write_edition(place.path("edition"))
-    place.import_one(place.make_store(), full)
-    copy_is_refused(place, Refusal("store", "small/new", "ERR 2 DiskFault", "No space left"))
+    place.import_one(place.make_store(), made(place)[0])
+    place.refuses(["copy", "--store", "store", "--to", "small/new"], FAULT, "No space left")
     assert list(small_disk.iterdir()) == []
 
 
@@ -400,7 +349,7 @@ def left_of(place: Place, copy: Path, state: str, digest: str) -> str:
 def test_killed_copies(place: Place) -> None:
     """A copy that is killed leaves the store as it is, and no store, or the whole copy."""
     store = place.make_store()
-    place.import_all(store, write_edition(place.path("edition"), KILLED_ROWS))
+    place.import_all(store, made(place, rows=KILLED_ROWS))
     before, state, digest = store.read_bytes(), place.status(store), place.digest(store)
     begun = time.monotonic()
     place.copy(store, "first")
@@ -435,8 +384,8 @@ def each_digest(place: Place, store: Path, wanted: Sequence[str]) -> None:
 def test_digests(place: Place) -> None:
     """The digest is the one that is computed from the releases' files, in whatever way a store came
     to its rows and keeps them."""
-    full, delta = write_edition(place.path("edition"))
-    wanted = [NO_ROWS, digest_of(full), digest_of(full, delta)]
+    full, delta = made(place)
+    wanted = [NO_ROWS, place.digest_of(full), place.digest_of(full, delta)]
     store = place.make_store()
     place.import_all(store, [full, delta])
     each_digest(place, store, wanted)
@@ -452,13 +401,13 @@ def test_digests(place: Place) -> None:
     each_digest(place, store, [*wanted, wanted[2], wanted[2]])
     other = place.make_store("other", layout=3)
     place.import_all(other, [delta, full])
-    each_digest(place, other, [NO_ROWS, digest_of(delta), wanted[2]])
+    each_digest(place, other, [NO_ROWS, place.digest_of(delta), wanted[2]])
 
 
 def test_digests_of_members(place: Place) -> None:
     """The same of a store of layout 3 that has all files of a package."""
-    full, delta = write_package(place.path("package"))
-    wanted = [NO_ROWS, digest_of(ALL, full), digest_of(ALL, full, delta)]
+    full, delta = made(place, is_package=True)
+    wanted = [NO_ROWS, place.digest_of(ALL, full), place.digest_of(ALL, full, delta)]
     store = place.make_store(layout=3)
     place.import_all(store, [full, delta])
     each_digest(place, store, wanted)
@@ -468,7 +417,7 @@ def test_digests_of_members(place: Place) -> None:
     each_digest(place, place.copy(store, "copy"), wanted)
     other = place.make_store("other", layout=3)
     place.import_all(other, [delta, full])
-    each_digest(place, other, [NO_ROWS, digest_of(ALL, delta), wanted[2]])
+    each_digest(place, other, [NO_ROWS, place.digest_of(ALL, delta), wanted[2]])
 
 
 def test_digest_of_line_ends(place: Place) -> None:
@@ -481,7 +430,7 @@ def test_digest_of_line_ends(place: Place) -> None:
     path.write_bytes((MAP_COLUMNS + "".join(rows)).encode())
     store = place.make_store(layout=3)
     assert place.import_one(store, release) == f"OK 1 {1 + len(LINE_ENDS)} 0"
-    each_digest(place, store, [NO_ROWS, digest_of(ALL, release)])
+    each_digest(place, store, [NO_ROWS, place.digest_of(ALL, release)])
 
 
 def test_digest_refused(place: Place) -> None:
@@ -510,7 +459,7 @@ def of_members(full: Path) -> Iterator[str]:
 
 def test_packages_below(place: Place) -> None:
     """A store of layout 2 takes from a package what it keeps, as if nothing else was there."""
-    full, delta = write_package(place.path("package"))
+    full, delta = made(place, is_package=True)
     basic = [basic_files(one, place.path("basic-" + one.name)) for one in (full, delta)]
     seen = []
     for name, releases in (("whole", [full, delta]), ("basic", basic)):
@@ -520,13 +469,13 @@ def test_packages_below(place: Place) -> None:
         assert here.ask(store, OF_MEMBERS) == [LATER_LAYOUT] * len(OF_MEMBERS)
         seen.append((told, here.status(store), here.digest(store), reports(here, store, 2)))
     assert seen[0] == seen[1]
-    assert seen[0][2] == digest_of(full, delta)
+    assert seen[0][2] == place.digest_of(full, delta)
 
 
 def test_the_rest(place: Place) -> None:
     """A store of layout 2 takes the rest of a package once it was copied in layout 3 and the Full
     release is imported again; what was reported before stays as it was."""
-    full, delta = write_package(place.path("package"))
+    full, delta = made(place, is_package=True)
     store, lines = place.make_store(), list(of_members(full))
     place.import_all(store, [full, delta])
     before, digest = reports(place, store, 2), place.digest(store)
@@ -538,8 +487,8 @@ def test_the_rest(place: Place) -> None:
     wanted = [["END 0"] if reply == LATER_LAYOUT else reply for reply in before]
     assert reports(place, store, 2) == wanted
     each_digest(place, store, [
-        NO_ROWS, digest_of(full), digest, digest_of(full, delta, ALL, full),
-        digest_of(ALL, full, delta)])
+        NO_ROWS, place.digest_of(full), digest, place.digest_of(full, delta, ALL, full),
+        place.digest_of(ALL, full, delta)])
     at_once = place.make_store("at once", layout=3)
     place.import_all(at_once, [full, delta])
     rows = [place.status(one).split(" ")[2] for one in (store, at_once)]

@@ -62,8 +62,7 @@ COMPLETED = (
     ("sctd serve --store a-", ["a-file", "a-folder"]),
     ("sctd serve --releases a-", ["a-folder"]),
     ("sctd-hub --conn", ["--connections-a-user"]),
-    ("sctd-gateway --l", ["--languages", "--listen", "--log"]),
-)
+    ("sctd-gateway --l", ["--languages", "--listen", "--log"]))
 COMPLETING = """
 source "$1"; words=($2); [[ $2 == *" " ]] && words+=("")
 COMP_WORDS=("${words[@]}"); COMP_CWORD=$((${#words[@]} - 1)); _sctd "${words[0]}"
@@ -131,12 +130,11 @@ def test_contents(made: Made) -> None:
     found = {words[5] for words in lines if words[0][0] != "d"}
     assert sorted(found ^ set(wanted_files())) == []
     assert {words[1] for words in lines} == {"root/root"}
-    assert {words[0] for words in lines} == {
-        "drwxr-xr-x", "-rwxr-xr-x", "-rw-r--r--", "lrwxrwxrwx"}
+    assert {words[0] for words in lines} == {"drwxr-xr-x", "-rwxr-xr-x", "-rw-r--r--", "lrwxrwxrwx"}
     commands = [words[5] for words in lines if words[0] == "-rwxr-xr-x"]
     assert sorted(os.path.basename(name) for name in commands) == [
-        "client.py", "digest.py", "export.py", "follow.py", "read_records.py", "sctd", "sctd",
-        "sctd-gateway", "sctd-hub", "take_copy.py"]
+        "check_edition.py", "client.py", "digest.py", "export.py", "follow.py", "read_records.py",
+        "sctd", "sctd", "sctd-gateway", "sctd-hub", "take_copy.py"]
     readme = made.path(debian.DOC + "/README").read_text("utf-8")
     assert readme.count("\n") <= MOST_LINES_OF_README
 

@@ -61,6 +61,11 @@ class Script:
         return self.process.returncode, told
 
 
+def ends_with(done: subprocess.CompletedProcess[bytes], why: str, status: int = 1) -> None:
+    """A run of a script printed nothing, and says why in one line."""
+    assert (done.returncode, done.stdout, done.stderr.decode()) == (status, b"", why + "\n")
+
+
 # ---- client.py
 
 
@@ -68,37 +73,33 @@ class Script:
     (b"STATUS", b"OK 2 10 2 -\n", 0), (b"", b"", 0),
     (b"STEP 1\nSTATUS\n", b"ERR 11 NoMerge\nOK 2 10 2 -\n", 1),
     (b"STATUS\nx\n", b"OK 2 10 2 -\nERR 42 Command\n", 1)))
-def test_client(place: Place, two_imports: Path, given: bytes, printed: bytes,
-                status: int) -> None:
+def test_client(hub: Hub, place: Place, given: bytes, printed: bytes, status: int) -> None:
     """client.py ends with 1 after an ERR, and never with a traceback."""
-    with Hub(place, two_imports) as hub:
-        done = place.run_script(CLIENT, hub.socket, given=given)
-        assert (done.stdout, done.returncode, done.stderr) == (printed, status, b"")
+    done = place.run_script(CLIENT, hub.socket, given=given)
+    assert (done.stdout, done.returncode, done.stderr) == (printed, status, b"")
 
 
-def test_client_unread(place: Place, two_imports: Path) -> None:
+def test_client_unread(hub: Hub, place: Place) -> None:
     """And where nobody reads what it prints."""
-    with Hub(place, two_imports) as hub:
-        unread = Script(place, CLIENT, hub.socket)
-        unread.output.close()
-        unread.send(b"STATUS\n")
-        assert unread.ended() == (1, "client: standard output: Broken pipe\n")
-        with open("/dev/full", "wb") as full:
-            done = subprocess.run(
-                [sys.executable, place.script(CLIENT), hub.socket], input=b"STATUS\n", stdout=full,
-                stderr=subprocess.PIPE, timeout=HUB_SECONDS, check=False, env=AROUND)
-        assert (done.returncode, done.stderr) == (
-            1, b"client: standard output: No space left on device\n")
+    unread = Script(place, CLIENT, hub.socket)
+    unread.output.close()
+    unread.send(b"STATUS\n")
+    assert unread.ended() == (1, "client: standard output: Broken pipe\n")
+    with open("/dev/full", "wb") as full:
+        done = subprocess.run(
+            [sys.executable, place.script(CLIENT), hub.socket], input=b"STATUS\n", stdout=full,
+            stderr=subprocess.PIPE, timeout=HUB_SECONDS, check=False, env=AROUND)
+    assert (done.returncode, done.stderr) == (
+        1, b"client: standard output: No space left on device\n")
 
 
-def test_client_whose_hub_ends(place: Place, two_imports: Path) -> None:
-    with Hub(place, two_imports) as hub:
-        left = Script(place, CLIENT, hub.socket)
-        left.send(b"STATUS\n")
-        assert left.output.readline() == b"OK 2 10 2 -\n"
-        assert hub.stop() == 0
-        left.send(b"STATUS\n")
-        assert left.ended() == (1, "client: the hub has ended\n")
+def test_client_whose_hub_ends(hub: Hub, place: Place) -> None:
+    left = Script(place, CLIENT, hub.socket)
+    left.send(b"STATUS\n")
+    assert left.output.readline() == b"OK 2 10 2 -\n"
+    assert hub.stop() == 0
+    left.send(b"STATUS\n")
+    assert left.ended() == (1, "client: the hub has ended\n")
 
 
 @pytest.mark.parametrize("path, why", (
@@ -106,9 +107,7 @@ def test_client_whose_hub_ends(place: Place, two_imports: Path) -> None:
     ("x" * 200, "AF_UNIX path too long")))
 def test_client_without_hub(place: Place, store: Path, path: str, why: str) -> None:
     path = path.format(store.parent)
-    done = place.run_script(CLIENT, path, given=b"STATUS\n")
-    assert (done.returncode, done.stdout, done.stderr.decode()) == (
-        1, b"", f"client: {path}: {why}\n")
+    ends_with(place.run_script(CLIENT, path, given=b"STATUS\n"), f"client: {path}: {why}")
 
 
 # ---- What was known of records
@@ -141,14 +140,12 @@ CHAINS = {
         description(4, 2, "Zwei (de)", "20100131", language="de"),
         description(5, 2, "Two (en)", "20110131"), description(6, 10, "Ten\rCR (late)", "20220131"),
         description(7, 4, "=1+1 (four)", "20100131")],
-    "A": [
-        association(1, rf2.SAME_AS, 2, 3), association(2, rf2.REPLACED_BY, 3, 4),
-        association(3, POSSIBLY_EQUIVALENT, 5, 1), association(4, POSSIBLY_EQUIVALENT, 5, 6),
-        association(5, rf2.SAME_AS, 6, 7), association(6, rf2.REPLACED_BY, 8, 9),
-        association(7, rf2.REPLACED_BY, 9, 8), association(8, MOVED_FROM, 11, 1),
-        association(9, rf2.SAME_AS, 12, 1), association(10, POSSIBLY_EQUIVALENT, 12, 1),
-        association(11, rf2.SAME_AS, 12, 4, active=0)],
-}
+    "A": [association(1, rf2.SAME_AS, 2, 3), association(2, rf2.REPLACED_BY, 3, 4),
+          association(3, POSSIBLY_EQUIVALENT, 5, 1), association(4, POSSIBLY_EQUIVALENT, 5, 6),
+          association(5, rf2.SAME_AS, 6, 7), association(6, rf2.REPLACED_BY, 8, 9),
+          association(7, rf2.REPLACED_BY, 9, 8), association(8, MOVED_FROM, 11, 1),
+          association(9, rf2.SAME_AS, 12, 1), association(10, POSSIBLY_EQUIVALENT, 12, 1),
+          association(11, rf2.SAME_AS, 12, 4, active=0)]}
 NO_DAY = "the date isn't a day such as 20200630 or 2020-06-30"
 NO_CODE = "the code is no concept's SCTID"
 NOT_THERE = "the concept wasn't there yet on that date"
@@ -354,7 +351,7 @@ def test_bad_runs(place: Place, chains: Hub, given: bytes, words: list[str], sta
                   why: str) -> None:
     """What ends a run is said in one line."""
     done = place.run_script(READER, "--socket", chains.questions, *words, given=given)
-    assert (done.returncode, done.stderr.decode()) == (status, f"read_records: {why}\n")
+    ends_with(done, f"read_records: {why}", status)
 
 
 @pytest.mark.parametrize("count", (1, 100_000))
@@ -376,9 +373,8 @@ def test_runs_whose_hub_ends(place: Place) -> None:
         left.input.write(b"%d,20120630\n" % concept_id(1) * 100)
         left.input.close()
         assert left.ended() == (1, "read_records: the hub has ended\n")
-    done = place.run_script(READER, "--socket", hub.questions, given=b"code,date\n")
-    assert (done.returncode, done.stderr.decode()) == (
-        1, f"read_records: {hub.questions}: No such file or directory\n")
+    ends_with(place.run_script(READER, "--socket", hub.questions, given=b"code,date\n"),
+              f"read_records: {hub.questions}: No such file or directory")
 
 
 def memory_of_run(place: Place, hub: Hub, count: int) -> int:

@@ -11,9 +11,9 @@ import pytest
 
 import growths_lines
 import growths_room
-from growths_harness import Program, Ran, Refusals
+from growths_harness import Program, Refusals
 from growths_lines import Runs, Served
-from harness import RELEASES, Place
+from harness import RELEASES, Place, Ran
 from soak_model import Model, Reply
 
 LINES = ["0 STATUS", "0 IMPORT r1", "0 GET C 1000004 20200131"]
@@ -25,7 +25,7 @@ TOO_MANY = 1_000_000
 class Generous(Program):
     """A program to which no request for memory is refused, whatever is asked for."""
 
-    def run(self, words: Sequence[str], folder: Path, given: bytes = b"",
+    def run(self, words: Sequence[str], folder: Path, given: str = "",
             refusals: Optional[Refusals] = None,
             around: Optional[dict[str, str]] = None) -> tuple[Ran, bool]:
         return super().run(words, folder, given)
@@ -96,7 +96,7 @@ def rooms_on(place: Place, monkeypatch: pytest.MonkeyPatch, least: int = 1) -> b
     if shutil.which("cc") is None:
         pytest.skip("there is no C compiler")
     monkeypatch.setattr(growths_room, "LINES", ((IMPORTED[2:], least), ("TRIM", 0)))
-    monkeypatch.setattr(growths_room, "MERGED", b"OK 1 6 1 -\n")
+    monkeypatch.setattr(growths_room, "MERGED", "OK 1 6 1 -\n")
     return growths_room.are_right(Program(place.program, place.folder), place.folder)
 
 

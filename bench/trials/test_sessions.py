@@ -66,44 +66,42 @@ def test_two_clients(place: Place) -> None:
         assert (done.stdout, done.returncode) == (wanted.encode(), 0)
 
 
-def test_bad_clients(place: Place, store: Path) -> None:
+def test_bad_clients(hub: Hub) -> None:
     """Half a line, a line without an end, and bytes that are no text: the others are answered."""
-    with Hub(place, store) as hub:
-        half, endless, other = hub.client(), hub.client(), hub.client()
-        half.send(b"IMPORT r3")
-        half.leave()
-        endless.send(b"a" * 1_000_000)
-        assert other.ask("STATUS") == STATUS
-        endless.send(b"\nSTATUS\n")
-        assert endless.read() == ["ERR 40 Long"]
-        assert endless.read() == STATUS
-        assert other.ask("\0\ufffd") == ["ERR 42 Command"]
-        assert other.ask("") == ["ERR 42 Command"]
-        # The session has one digit, which counts with its space for the program's limit of 4,096. A
-        # CR at the end doesn't.
-        for end in ("", "\r"):
-            assert other.ask("x" * 4_094 + end) == ["ERR 42 Command"]
-            assert other.ask("x" * 4_095 + end) == ["ERR 40 Long"]
+    half, endless, other = hub.client(), hub.client(), hub.client()
+    half.send(b"IMPORT r3")
+    half.leave()
+    endless.send(b"a" * 1_000_000)
+    assert other.ask("STATUS") == STATUS
+    endless.send(b"\nSTATUS\n")
+    assert endless.read() == ["ERR 40 Long"]
+    assert endless.read() == STATUS
+    assert other.ask("\0\ufffd") == ["ERR 42 Command"]
+    assert other.ask("") == ["ERR 42 Command"]
+    # The session has one digit, which counts with its space for the program's limit of 4,096. A
+    # CR at the end doesn't.
+    for end in ("", "\r"):
+        assert other.ask("x" * 4_094 + end) == ["ERR 42 Command"]
+        assert other.ask("x" * 4_095 + end) == ["ERR 40 Long"]
 
 
 @pytest.mark.skipif(MOST_FILES < CLIENTS + 100, reason=f"it takes {CLIENTS + 100} open files")
-def test_many_clients(place: Place, store: Path) -> None:
+def test_many_clients(hub: Hub) -> None:
     """More clients than sessions: so many are answered, and the others are told."""
-    with Hub(place, store) as hub:
-        before = [served(hub.socket) for _ in range(3)]
-        for client in before:
-            assert client.ask("PIN 1") == ["OK 1"]
-            client.leave()
-        clients = [served(hub.socket) for _ in range(SESSIONS)]
-        for _ in range(CLIENTS - SESSIONS):
-            one_more = hub.client()
-            assert one_more.read() == ["ERR 41 Session"]
-            one_more.leave()
-        for client in clients:
-            # A pin that one of the clients before them left would show.
-            assert client.ask(QUESTION) == [AS_IN_2021, "END 1"]
-            client.leave()
-        served(hub.socket).leave()
+    before = [served(hub.socket) for _ in range(3)]
+    for client in before:
+        assert client.ask("PIN 1") == ["OK 1"]
+        client.leave()
+    clients = [served(hub.socket) for _ in range(SESSIONS)]
+    for _ in range(CLIENTS - SESSIONS):
+        one_more = hub.client()
+        assert one_more.read() == ["ERR 41 Session"]
+        one_more.leave()
+    for client in clients:
+        # A pin that one of the clients before them left would show.
+        assert client.ask(QUESTION) == [AS_IN_2021, "END 1"]
+        client.leave()
+    served(hub.socket).leave()
 
 
 def served(path: Path) -> Client:
@@ -222,38 +220,35 @@ def test_sockets_of_hubs(place: Place, store: Path) -> None:
             assert hub.socket.exists()
 
 
-def test_damage(place: Place, store: Path) -> None:
+def test_damage(hub: Hub, store: Path) -> None:
     """A store that is changed while it is served: standard error says that it is damaged."""
-    with Hub(place, store) as hub:
-        assert hub.first_line == "OK ready"
-        flip(store)
-        client = hub.client()
-        assert client.ask("GET C 1000004 20200131") == ["ERR 8 Damaged"]
-        # No reply is lost behind one, or comes to another client.
-        client.send(b"RECEIPT 1\nGET C 1000004 20200131\nRECEIPT 2\nSTATUS\n")
-        for wanted in ("OK 1 6 20200131", "ERR 8 Damaged", "OK 2 4 20210131",
-                       STATUS[0] + " Damaged"):
-            assert client.read() == [wanted]
-        assert hub.client().ask("RECEIPT 1") == ["OK 1 6 20200131"]
-        assert hub.stop() == 1
-        first, last = hub.logged()
-        found = f"the store is damaged: GET C 1000004 20200131 of user {os.getuid()} was"
-        assert first.startswith(found + " answered ERR 8 Damaged. ")
-        assert last.startswith("the store is damaged, as was told at 2")
+    assert hub.first_line == "OK ready"
+    flip(store)
+    client = hub.client()
+    assert client.ask("GET C 1000004 20200131") == ["ERR 8 Damaged"]
+    # No reply is lost behind one, or comes to another client.
+    client.send(b"RECEIPT 1\nGET C 1000004 20200131\nRECEIPT 2\nSTATUS\n")
+    for wanted in ("OK 1 6 20200131", "ERR 8 Damaged", "OK 2 4 20210131", STATUS[0] + " Damaged"):
+        assert client.read() == [wanted]
+    assert hub.client().ask("RECEIPT 1") == ["OK 1 6 20200131"]
+    assert hub.stop() == 1
+    first, last = hub.logged()
+    found = f"the store is damaged: GET C 1000004 20200131 of user {os.getuid()} was"
+    assert first.startswith(found + " answered ERR 8 Damaged. ")
+    assert last.startswith("the store is damaged, as was told at 2")
 
 
 @pytest.mark.parametrize("asks", (False, True))
-def test_kill_program(place: Place, store: Path, asks: bool) -> None:
+def test_kill_program(hub: Hub, asks: bool) -> None:
     """Where the program ends, the hub ends, so that what started it starts it again: also where
     nobody asks."""
-    with Hub(place, store) as hub:
-        program, = hub.programs()
-        idle = hub.client()
-        assert idle.ask("STATUS") == STATUS
-        os.kill(program, signal.SIGKILL)
-        if asks:
-            idle.send(b"STATUS\n")
-        assert (hub.end(), hub.told()) == (1, "hub: the program has ended\n")
+    program, = hub.programs()
+    idle = hub.client()
+    assert idle.ask("STATUS") == STATUS
+    os.kill(program, signal.SIGKILL)
+    if asks:
+        idle.send(b"STATUS\n")
+    assert (hub.end(), hub.told()) == (1, "hub: the program has ended\n")
 
 
 def test_disk_fault(place: Place, store: Path) -> None:
@@ -281,22 +276,21 @@ for line in sys.stdin.buffer:
         assert hub.end() == 1
 
 
-def test_ends(place: Place, store: Path) -> None:
+def test_ends(hub: Hub) -> None:
     """A hub that is stopped ends all of its clients, and says nothing of them."""
-    with Hub(place, store, asks=True) as hub:
-        clients = [served(path) for path in (hub.socket, hub.questions) for _ in range(20)]
-        for client in clients[::2]:
-            assert client.ask("PIN 1") == ["OK 1"]
-        # This one doesn't read what it is answered, until the hub can send it nothing more.
-        clients[0].connection.settimeout(0.5)
-        with contextlib.suppress(OSError):
-            clients[0].connection.sendall(b"HISTORY C 1000004\n" * 50_000)
-        assert clients[1].ask("STATUS") == STATUS
-        assert hub.stop() == 0
-        assert hub.told() == ""
-        assert clients[5].line() == b""
-        for client in clients:
-            client.leave()
+    clients = [served(path) for path in (hub.socket, hub.questions) for _ in range(20)]
+    for client in clients[::2]:
+        assert client.ask("PIN 1") == ["OK 1"]
+    # This one doesn't read what it is answered, until the hub can send it nothing more.
+    clients[0].connection.settimeout(0.5)
+    with contextlib.suppress(OSError):
+        clients[0].connection.sendall(b"HISTORY C 1000004\n" * 50_000)
+    assert clients[1].ask("STATUS") == STATUS
+    assert hub.stop() == 0
+    assert hub.told() == ""
+    assert clients[5].line() == b""
+    for client in clients:
+        client.leave()
 
 
 def test_unread(place: Place, store: Path) -> None:

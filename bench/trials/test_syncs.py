@@ -21,7 +21,7 @@ from typing import NamedTuple
 
 import pytest
 
-from harness import BLOCK, Place, write_release
+from harness import BLOCK, Place, has_strace, write_release
 from moments import compiled
 import make_release as rf2
 
@@ -89,9 +89,8 @@ class Tracer:
             before = ["strace", "-f", "-y", "-xx", "-o", self.log, "-e", "trace=" + TRACED]
         else:
             around["LD_PRELOAD"] = str(self.library)
-        done = subprocess.run(
-            [*before, self.place.program, *words], input=given.encode(), stdout=subprocess.PIPE,
-            env=around, check=True, timeout=SECONDS)
+        done = subprocess.run([*before, self.place.program, *words], input=given.encode(),
+                              stdout=subprocess.PIPE, env=around, check=True, timeout=SECONDS)
         lines = self.log.read_text("utf-8", "replace").splitlines()
         parse = of_strace if self.is_strace else of_library
         return done.stdout.decode(), [call for call in map(parse, lines) if call]
@@ -101,11 +100,8 @@ class Tracer:
 def tracer(place: Place, request: pytest.FixtureRequest) -> Tracer:
     """A tracer of either way. (strace may be there and not be allowed.)"""
     is_strace = request.param == "strace"
-    if shutil.which(request.param if is_strace else "cc") is None:
-        pytest.skip("there is no strace" if is_strace else "there is no C compiler")
-    words = ["strace", "-f", "-o", os.devnull, "true"]
-    if is_strace and subprocess.run(words, capture_output=True, check=False).returncode:
-        pytest.skip("strace doesn't run here")
+    if not (has_strace() if is_strace else shutil.which("cc")):
+        pytest.skip("strace doesn't run here" if is_strace else "there is no C compiler")
     return Tracer(place, is_strace)
 
 

@@ -16,14 +16,12 @@ import http.client
 import os
 import sys
 from collections import Counter
-from collections.abc import Sequence
 from pathlib import Path
 from urllib.parse import urlsplit
 
-from harness import TOP
+from harness import TOP, Wrong, go_on_with, tell
 
-sys.path[:0] = [str(TOP / "service"), str(TOP / "packaging")]
-from needs import python_with  # noqa: E402
+sys.path.insert(0, str(TOP / "service"))
 
 ANSWERS, ROWS, SEED = 2_000, 20_000, 1
 # The releases that are made: without members, and a whole package.
@@ -31,10 +29,9 @@ KINDS = (False, True)
 # How long an answer may take, and what is read of a folder.
 SECONDS = 60
 TERMINOLOGY = "Terminology"
-NOT_RUN = 3
 
 
-def arguments(words: Sequence[str]) -> argparse.Namespace:
+def arguments() -> argparse.Namespace:
     assert __doc__
     parser = argparse.ArgumentParser(description=__doc__.split("\n", maxsplit=1)[0])
     parser.add_argument("program", nargs="?", type=Path, help="the built sctd")
@@ -46,7 +43,7 @@ def arguments(words: Sequence[str]) -> argparse.Namespace:
     parser.add_argument("--edition", help="the gateway's module")
     parser.add_argument("--files", type=Path, action="append", default=[], help="of its store")
     parser.add_argument("--languages", default="", help="the gateway's, separated by commas")
-    found = parser.parse_args(words)
+    found = parser.parse_args()
     is_whole = found.address and found.edition and found.files
     if bool(found.program) == bool(is_whole):
         parser.error("PROGRAM, or --address with --edition and --files")
@@ -85,25 +82,18 @@ def of_address(asked: argparse.Namespace) -> Counter[str]:
     return comparison.counts
 
 
-def main(words: Sequence[str]) -> int:
-    asked, python = arguments(words), python_with()
-    if python is None:
-        print("not run: a package of the gateway is missing")
-        return NOT_RUN
-    if python != sys.executable:
-        os.execv(python, [python, os.path.abspath(__file__), *words])
+def tried(asked: argparse.Namespace) -> None:
+    go_on_with()
     from tests.compare_releases import Differs
 
     try:
         counts = of_program(asked) if asked.program else of_address(asked)
     except Differs as differs:
-        print(f"DIFFERS: {differs}")
-        return 1
+        raise Wrong(f"DIFFERS: {differs}") from None
     for what, count in sorted(counts.items()):
         print(f"{count} {what}")
     print(f"{counts.total()} answers, 0 differ")
-    return 0
 
 
 if __name__ == "__main__":
-    sys.exit(main(sys.argv[1:]))
+    sys.exit(tell(lambda: tried(arguments())))

@@ -20,12 +20,12 @@ import subprocess
 import sys
 import tempfile
 import time
-from collections.abc import Iterator, Sequence
+from collections.abc import Iterator
 from pathlib import Path
 from typing import NamedTuple
 
 import chromium
-from harness import Wrong, same
+from harness import NotRun, Wrong, parser_of, same, tell
 
 ROOT = Path(__file__).resolve().parents[2]
 sys.path += [str(ROOT / "packaging"), str(ROOT / "bench")]
@@ -34,7 +34,6 @@ import first_look  # noqa: E402
 from needs import MODULES  # noqa: E402
 from unproved import kit_folder  # noqa: E402
 
-NOT_RUN = 3
 # How long the first look may take to be there: with a build, and without one.
 BUILD_SECONDS, SECONDS = 1800, 120
 # What of this tree ./try needs; of crates/ what the program is built from.
@@ -92,7 +91,7 @@ def make_clone(place: Path) -> Path:
     return clone
 
 
-def put_program(clone: Path, program: str) -> None:
+def put_program(clone: Path, program: Path) -> None:
     """Puts the program where ./try would have built it."""
     home = clone / "out" / "try"
     home.mkdir(parents=True)
@@ -167,12 +166,9 @@ def by_chromium(told: Told) -> None:
     if path is None:
         print("skipped: there is no Chromium", flush=True)
         return
-    browser = chromium.Browser(path)
-    try:
+    with contextlib.closing(chromium.Browser(path)) as browser:
         browser.open(told.page)
         shown = str(browser.value("document.body.innerText"))
-    finally:
-        browser.close()
     parts = ["Street", "Way", "retired"]
     same("what the page doesn't show", [part for part in parts if part not in shown], [])
 
@@ -241,39 +237,30 @@ def what_is_missing(clone: Path, place: Path) -> None:
             same("whether it says %r: %r" % (part, look.text), part in look.text, True)
 
 
-def tried(program: str, is_built: bool, place: Path) -> None:
-    clone = make_clone(place)
-    if not is_built:
-        put_program(clone, program)
-    first(clone, is_built)
-    second(clone)
-    what_is_missing(clone, place)
-
-
-def main(words: Sequence[str]) -> int:
-    is_built = words[:1] == ["--build"]
-    words = words[1:] if is_built else words
-    if len(words) != 1:
-        print((__doc__ or "").strip(), file=sys.stderr)
-        return 2
+def tried(program: Path, is_built: bool) -> None:
+    if shutil.which("curl") is None:
+        raise NotRun("there is no curl")
     try:
         first_look.look_for_all()
     except first_look.Failed as why:
-        print("not run: %s" % str(why).replace("\n", " "))
-        return NOT_RUN
-    if shutil.which("curl") is None:
-        print("not run: there is no curl")
-        return NOT_RUN
+        raise NotRun(str(why).replace("\n", " ")) from None
     # (A shell's background job ignores SIGINT, and what it starts would, too.)
     signal.signal(signal.SIGINT, signal.default_int_handler)
-    try:
-        with tempfile.TemporaryDirectory(prefix="sctd-look-") as place:
-            tried(os.path.abspath(words[0]), is_built, Path(place))
-    except (Wrong, chromium.Failed, subprocess.TimeoutExpired) as why:
-        print("WRONG: %s" % why)
-        return 1
-    return 0
+    with tempfile.TemporaryDirectory(prefix="sctd-look-") as folder:
+        clone = make_clone(Path(folder))
+        if not is_built:
+            put_program(clone, program)
+        first(clone, is_built)
+        second(clone)
+        what_is_missing(clone, Path(folder))
+
+
+def main() -> int:
+    parser = parser_of(__doc__)
+    parser.add_argument("--build", action="store_true", help="builds it, which takes minutes")
+    asked = parser.parse_args()
+    return tell(lambda: tried(asked.program, asked.build))
 
 
 if __name__ == "__main__":
-    sys.exit(main(sys.argv[1:]))
+    sys.exit(main())

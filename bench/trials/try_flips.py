@@ -11,7 +11,6 @@ store is served, the bits of records are turned over while it is open, and the r
 for: the answer is the right one, from a block in memory, or ERR 8.
 """
 
-import argparse
 import random
 import sys
 import tempfile
@@ -19,7 +18,7 @@ from collections import Counter
 from collections.abc import Iterator, Sequence
 from pathlib import Path
 
-from harness import BLOCK, LAST_WORDS, Place, Server, Wrong
+from harness import BLOCK, LAST_WORDS, Place, Server, Wrong, parser_of, tell
 import make_release
 
 # How many components of a sort of files are asked for.
@@ -33,9 +32,8 @@ DIRECTORIES = (BLOCK, 3 * BLOCK)
 
 # A bit: the place of its byte, and its value there.
 Bit = tuple[int, int]
-# Where a bit stood, and what became of it; and how many there were of each.
+# Where a bit stood, and what became of it.
 Fate = tuple[str, str]
-Fates = Counter[Fate]
 
 
 def number(data: bytes, at: int, length: int) -> int:
@@ -148,9 +146,9 @@ def while_open(place: Place, store: Store, chance: random.Random, lines: Sequenc
     return refused
 
 
-def tried(place: Place, rows: int, bits: int, chance: random.Random) -> tuple[Fates, str]:
-    """What became of the bits, and what was answered while the store was open."""
-    make_release.main(["--package", str(place.releases), str(rows)])
+def tried(place: Place, rows: int, bits: int, chance: random.Random) -> None:
+    """Prints what became of the bits, and what was answered while the store was open."""
+    make_release.make(place.releases, rows, is_package=True)
     path = place.make_store(layout=3)
     lines = list(some_questions(place.releases / "full", chance))
     shown = []
@@ -160,31 +158,11 @@ def tried(place: Place, rows: int, bits: int, chance: random.Random) -> tuple[Fa
     store = Store(path)
     fates = Counter(flipped(place, store, bit, shown, lines) for bit in chosen(store, chance, bits))
     refused = while_open(place, store, chance, lines, shown[1][1:])
-    return fates, f"while open: refused {refused} of {len(lines)}"
-
-
-def main() -> int:
-    assert __doc__
-    parser = argparse.ArgumentParser(description=__doc__.split("\n", maxsplit=1)[0])
-    parser.add_argument("program", type=Path, help="the built sctd")
-    for name, usual in (("rows", 20_000), ("bits", 200), ("seed", 1)):
-        parser.add_argument(name, type=int, nargs="?", default=usual)
-    asked = parser.parse_args()
-    with tempfile.TemporaryDirectory(prefix="sctd-flips-") as folder:
-        place = Place(asked.program.resolve(), Path(folder))
-        place.seconds = SECONDS
-        try:
-            fates, said = tried(place, asked.rows, asked.bits, random.Random(asked.seed))
-        except Wrong as wrong:
-            print(f"WRONG: {wrong}")
-            return 1
     for (where, what), count in sorted(fates.items()):
         print(f"{where} {what} {count}")
-    print(said)
+    print(f"while open: refused {refused} of {len(lines)}")
     if not fates["record", "refused"]:
-        print("NOTHING TRIED: no bit of a record was turned over")
-        return 1
-    return 0
+        raise Wrong("NOTHING TRIED: no bit of a record was turned over")
 
 
 def some_questions(folder: Path, chance: random.Random) -> Iterator[str]:
@@ -210,6 +188,17 @@ def questions_about(kind: str, row: Sequence[str]) -> Iterator[str]:
     if kind == "M":
         yield "MEMBERS %s 20991231 %s 10" % (row[4], row[0])
         yield "VALUES %s 20991231 %s 10" % (row[4], row[5])
+
+
+def main() -> int:
+    parser = parser_of(__doc__)
+    for name, usual in (("rows", 20_000), ("bits", 200), ("seed", 1)):
+        parser.add_argument(name, type=int, nargs="?", default=usual)
+    asked = parser.parse_args()
+    with tempfile.TemporaryDirectory(prefix="sctd-flips-") as folder:
+        place = Place(asked.program, Path(folder))
+        place.seconds = SECONDS
+        return tell(lambda: tried(place, asked.rows, asked.bits, random.Random(asked.seed)))
 
 
 if __name__ == "__main__":

@@ -35,11 +35,11 @@ from typing import Any, NamedTuple, Optional
 from urllib.parse import urlencode
 
 from machines_releases import CODES, TOP, days_of, rows_of, wording_of, write
-from harness import Wrong, children, same, until
+import harness
+from harness import Wrong, children, parser_of, same, tell, until
 from proxy_harness import (
-    HAPROXY, LOOK_SECONDS, NGINX, NOT_RUN, ROOT, SECONDS, Client, Clients, Process, Proxy,
-    gateway_words, hub_words, missing, open_folder, ready, run, stop)
-from sctd_service.protocol import HubClient, HubFailed
+    HAPROXY, LOOK_SECONDS, NGINX, OPENSSL, ROOT, SECONDS, Client, Clients, Process, Proxy,
+    gateway_words, hub_words, need, open_folder, ready, run, stop)
 from tests.compare_releases import Comparison, Differs
 from tests.fixtures import SCT, Json, version
 from tests.release_files import Rows, Snapshot
@@ -60,7 +60,6 @@ KILL_WRITER, START_BALANCER, KILL_READER, START_READER = 6, 10, 13, 15
 # The rounds' imports before which the last machine isn't fed.
 BEHIND = range(14, 20)
 MACHINES = ("writer", "near", "far")
-TOOLS = ("openssl", "curl")
 # The addresses of the bridge, of a machine by its number in its network and without one (others
 # may try machines at the same time), and of what machines listen on.
 BRIDGE, ADDRESS, PORT, COPIES_PORT = "10.77.0.1", "10.77.0.%d", 8080, 8090
@@ -143,10 +142,9 @@ class Machine:
         copies = str(self.place / "copies")
         served = [sys.executable, "-u", "-m", "http.server", "--bind", self.address, "--directory",
                   copies, str(COPIES_PORT)]
-        return {
-            "hub": hub_words(self.program, self.store, self.releases, *sockets),
-            "gateway": gateway_words(self.questions, "%s:%d" % (self.address, PORT)),
-            "copies": served}
+        return {"hub": hub_words(self.program, self.store, self.releases, *sockets),
+                "gateway": gateway_words(self.questions, "%s:%d" % (self.address, PORT)),
+                "copies": served}
 
     def start(self) -> None:
         """Starts what it does, and answers once it does it."""
@@ -196,12 +194,8 @@ class Machine:
 
     def asked(self, line: str, path: Optional[Path] = None) -> str:
         """The last line of the hub's reply."""
-        client = HubClient(str(path or self.questions))
-        try:
-            client.send([line.encode()])
-            return client.reply().decode().splitlines()[-1]
-        finally:
-            client.close()
+        with closing(harness.Client(path or self.questions)) as client:
+            return client.ask(line)[-1]
 
     def imports(self) -> int:
         return int(self.asked("STATUS").split()[1])
@@ -284,7 +278,7 @@ class Site:
     """The machines, the proxy, and what is known of them."""
 
     def __init__(self, place: Path, options: argparse.Namespace) -> None:
-        self.program, self.place = os.path.abspath(options.program), place
+        self.program, self.place = str(options.program), place
         self.size = LONG if options.long else SHORT
         self.end_at: float = time.monotonic() + options.minutes * 60
         if options.inside:
@@ -316,8 +310,8 @@ class Site:
 
     def kill_in_an_import(self) -> None:
         """Kills the machine that imports while it does, and repeats what wasn't done."""
-        client = HubClient(str(self.writer.own))
-        client.send([b"IMPORT r%d" % (self.imports + 1)])
+        client = harness.Client(self.writer.own)
+        client.send(b"IMPORT r%d\n" % (self.imports + 1))
         time.sleep(random.random() * LOOK_SECONDS)
         self.writer.kill()
         client.close()
@@ -338,20 +332,25 @@ class Site:
         """Has the readers take a backup, one after the other."""
         name = "%d.store" % self.imports
         copy = self.writer.place / "copies" / name
+        listed = Path("%s.imports" % copy)
         reply = self.writer.asked("BACKUP %s" % copy, self.writer.own)
         same("a backup", reply.split()[:2], ["OK", str(self.imports)])
         for reader in readers:
             to = reader.place / "copies" / name
-            run(*reader.within, *FETCH, str(to),
-                "http://%s:%d/%s" % (self.writer.address, COPIES_PORT, name))
+            for ending in ("", ".imports"):
+                run(*reader.within, *FETCH, str(to) + ending,
+                    "http://%s:%d/%s" % (self.writer.address, COPIES_PORT, name + ending))
             reader.note(-1)
             file = to.stat().st_ino
             said = run(*self.taking(reader, to)).splitlines()
             same("what take_copy.py says", said[-1:], ["OK %d" % self.imports])
             # (A file that was written over would be neither the one nor the other after a crash.)
             same("whether the copy is the store", reader.store.stat().st_ino == file, True)
+            own = Path("%s.imports" % reader.store)
+            same("the list of imports", own.read_bytes(), listed.read_bytes())
             reader.note(self.imports)
         copy.unlink()
+        listed.unlink()
 
     def taking(self, reader: Machine, copy: Path) -> list[str]:
         """The command that puts a copy in place on a machine."""
@@ -515,18 +514,13 @@ def tried(site: Site) -> None:
         same("whether some were " + what, counts[what] > 0, True)
 
 
-def run_trial(options: argparse.Namespace) -> int:
+def run_trial(options: argparse.Namespace) -> None:
     """The trial, in networks that nobody else has or without."""
-    try:
-        with open_folder() as place, closing(Site(place, options)) as site:
-            site.start()
-            tried(site)
-            refused_copies(site)
-            print("copies that aren't taken: as it has to be", flush=True)
-    except (Wrong, HubFailed, OSError, http.client.HTTPException) as why:
-        print("WRONG: %s" % why)
-        return 1
-    return 0
+    with open_folder() as place, closing(Site(place, options)) as site:
+        site.start()
+        tried(site)
+        refused_copies(site)
+        print("copies that aren't taken: as it has to be", flush=True)
 
 
 def has_networks() -> bool:
@@ -536,32 +530,27 @@ def has_networks() -> bool:
     return subprocess.run([*UNSHARED, "true"], capture_output=True, check=False).returncode == 0
 
 
-def options_of(words: Sequence[str]) -> argparse.Namespace:
-    parser = argparse.ArgumentParser(description="Tries three machines behind a proxy.")
-    parser.add_argument("program", help="the built sctd")
+def begin(options: argparse.Namespace) -> None:
+    """Makes the trial, within networks where there can be any."""
+    if not options.inside:
+        need((HAPROXY if options.haproxy else NGINX).name, OPENSSL, "curl")
+        if not options.processes and has_networks():
+            # (With this process all that it starts is ended, too.)
+            os.execvp(UNSHARED[0], [*UNSHARED, sys.executable, *sys.argv, INSIDE])
+        print("the machines are processes, without networks of their own", flush=True)
+    run_trial(options)
+
+
+def main() -> int:
+    parser = parser_of(__doc__)
     parser.add_argument("--long", action="store_true", help="more imports and requests")
     parser.add_argument("--minutes", type=float, default=math.inf, help="the most that it takes")
     parser.add_argument("--haproxy", action="store_true", help="haproxy in place of nginx")
     parser.add_argument("--processes", action="store_true", help="no networks")
     parser.add_argument(INSIDE, action="store_true", help=argparse.SUPPRESS)
-    return parser.parse_args(words)
-
-
-def main(words: Sequence[str]) -> int:
-    options = options_of(words)
-    if options.inside:
-        return run_trial(options)
-    kind = HAPROXY if options.haproxy else NGINX
-    if (lacks := missing((kind.name, *TOOLS))) is not None:
-        print("not run: there is no %s" % lacks)
-        return NOT_RUN
-    if options.processes or not has_networks():
-        print("the machines are processes, without networks of their own", flush=True)
-        return run_trial(options)
-    # (With this process all that it starts is ended, too.)
-    again = [*UNSHARED, sys.executable, os.path.abspath(__file__), *words, INSIDE]
-    os.execvp(again[0], again)
+    options = parser.parse_args()
+    return tell(lambda: begin(options))
 
 
 if __name__ == "__main__":
-    sys.exit(main(sys.argv[1:]))
+    sys.exit(main())

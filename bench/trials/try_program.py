@@ -8,17 +8,17 @@ with status 3: it is skipped, and not counted as passed. PASSED and FAILED are w
 the last line is `N passed, M failed` of both together.
 """
 
-import argparse
-import os
 import re
 import subprocess
 import sys
 import time
-from collections.abc import Sequence
+from collections.abc import Iterable, Sequence
 from pathlib import Path
 from typing import NamedTuple
 
-BENCH = os.path.dirname(os.path.dirname(os.path.abspath(__file__)))
+from harness import NOT_RUN, parser_of
+
+BENCH = Path(__file__).resolve().parents[1]
 # Each script of bench/ and its further words, none of which takes longer than this many seconds,
 # also on a machine that has much else to do.
 LONGEST = 1_200
@@ -30,7 +30,8 @@ SCRIPTS: list[tuple[str, ...]] = [
     ("trials/by_pytest.py", "files", "cache", "syncs"),
     ("trials/by_pytest.py", "sessions", "crowds", "digests", "openings"),
     ("trials/by_pytest.py", "duties", "copies"),
-    ("trials/by_pytest.py", "readers", "exports"),
+    ("trials/by_pytest.py", "imports"),
+    ("trials/by_pytest.py", "readers", "exports", "editions"),
     ("trials/by_pytest.py", "operators"),
     ("trials/refuse_growths.py", "script"),
     ("trials/refuse_growths.py", "tasks"),
@@ -42,9 +43,7 @@ SCRIPTS: list[tuple[str, ...]] = [
     ("trials/by_pytest.py", "package"),
     ("trials/try_first_look.py",),
     ("trials/try_proxy.py",),
-    ("trials/try_machines.py",),
-]
-NOT_RUN = 3
+    ("trials/try_machines.py",)]
 # The last line of a script that counts what it tried.
 COUNTED = re.compile(r"(\d+) passed, (\d+) failed(?:, (\d+) skipped)?$")
 # How much of what a script printed is told where it failed.
@@ -64,6 +63,12 @@ class Outcome(NamedTuple):
         return f"{self.passed} passed, {self.failed} failed{skipped}"
 
 
+def total(outcomes: Iterable[Outcome]) -> Outcome:
+    """The sums of all, without what to tell."""
+    passed, failed, skipped = (sum(counts) for counts in list(zip(*outcomes))[:3])
+    return Outcome(passed, failed, skipped)
+
+
 def outcome_of(status: int, printed: bytes, most_lines: int = LINES_TOLD) -> Outcome:
     """What came of a script, by its status and what it printed."""
     lines = printed.decode("utf-8", "backslashreplace").rstrip("\n").split("\n")
@@ -76,36 +81,35 @@ def outcome_of(status: int, printed: bytes, most_lines: int = LINES_TOLD) -> Out
     return Outcome(passed if found else 0, max(failed, 1), skipped, told)
 
 
-def run_script(words: Sequence[str | Path], most_lines: int = LINES_TOLD) -> Outcome:
-    """What came of a script of bench/ with its words."""
+def run_script(words: Sequence[str | Path], most_lines: int = LINES_TOLD,
+               bench: Path = BENCH) -> Outcome:
+    """What came of a script of bench/, or of a copy of it, with its words."""
     try:
         done = subprocess.run(
-            [sys.executable, os.path.join(BENCH, words[0]), *words[1:]], timeout=LONGEST,
-            cwd=os.path.dirname(BENCH), stdin=subprocess.DEVNULL, stdout=subprocess.PIPE,
-            stderr=subprocess.STDOUT, check=False)
+            [sys.executable, bench / words[0], *words[1:]], timeout=LONGEST, cwd=bench.parent,
+            stdin=subprocess.DEVNULL, stdout=subprocess.PIPE, stderr=subprocess.STDOUT, check=False)
     except subprocess.TimeoutExpired as late:
         return outcome_of(1, (late.stdout or b"") + b"\nit takes too long", most_lines)
     return outcome_of(done.returncode, done.stdout, most_lines)
 
 
 def main() -> int:
-    assert __doc__
-    parser = argparse.ArgumentParser(description=__doc__.split("\n", maxsplit=1)[0])
-    parser.add_argument("program", type=Path, help="the built sctd")
+    parser = parser_of(__doc__)
     parser.add_argument("passed", type=int, nargs="?", default=0, help="how many passed before")
     parser.add_argument("failed", type=int, nargs="?", default=0, help="how many failed before")
     asked = parser.parse_args()
-    passed, failed = asked.passed, asked.failed
+    outcomes = [Outcome(asked.passed, asked.failed)]
     for script, *more in SCRIPTS:
         begun = time.monotonic()
-        outcome = run_script([script, asked.program.resolve(), *more])
+        outcome = run_script([script, asked.program, *more])
         took = time.monotonic() - begun
         print(f"bench/{' '.join([script, *more])}: {outcome} ({took:.0f} s)", flush=True)
         if outcome.told:
             print("\n".join("    " + line for line in outcome.told.split("\n")), flush=True)
-        passed, failed = passed + outcome.passed, failed + outcome.failed
-    print(f"{passed} passed, {failed} failed")
-    return 1 if failed else 0
+        outcomes.append(outcome)
+    every = total(outcomes)._replace(skipped=0)
+    print(every)
+    return 1 if every.failed else 0
 
 
 if __name__ == "__main__":

@@ -10,7 +10,6 @@ is ended: no request may be refused, and all answers have to be the same. Where 
 missing it tries the other one, says which is skipped, and ends with status 3.
 """
 
-import argparse
 import http.client
 import json
 import shutil
@@ -23,11 +22,10 @@ from contextlib import closing
 from pathlib import Path
 from typing import Optional
 
-from harness import Wrong, same
+from harness import Hub, NotRun, Place, parser_of, same, tell
 from proxy_harness import (
-    HOST, KINDS, LANGUAGE, NOT_RUN, ROOT, SECONDS, TOOLS, USER, Authority, Client, Clients, Kind,
-    Process, Proxy, free_ports, gateway_words, hub_words, missing, open_folder, ready, stop)
-from sctd_service.protocol import HubClient, HubFailed
+    HOST, KINDS, LANGUAGE, OPENSSL, ROOT, SECONDS, USER, Authority, Client, Clients, Kind, Process,
+    Proxy, free_ports, gateway_words, need, open_folder, ready, stop)
 
 HUBS, GATEWAYS = 2, 3
 # Which hub each gateway asks.
@@ -51,7 +49,7 @@ class Site:
     def __init__(self, program: str, place: Path, kind: Kind, restarts: int) -> None:
         self.program, self.place, self.kind, self.restarts = program, place, kind, restarts
         self.addresses = ["%s:%d" % (HOST, port) for port in free_ports(GATEWAYS)]
-        self.hubs: list[Process] = []
+        self.hubs: list[Hub] = []
         self.gateways: list[Process] = []
         self.imports = [0] * HUBS
         self.proxy = Proxy(place, self.addresses, kind)
@@ -59,35 +57,24 @@ class Site:
 
     def start(self) -> None:
         for number in range(HUBS):
-            self.hubs.append(self.start_hub(number))
+            here = Place(Path(self.program), self.place).below("hub%d" % number)
+            self.hubs.append(Hub(here, here.releases / "a.store", "--make-store",
+                                 releases=ROOT / "docs", asks=True))
             self.import_to(number)
         for number in range(GATEWAYS):
             self.gateways.append(self.start_gateway(number))
         self.proxy.start()
 
-    def path(self, name: str, number: int) -> Path:
-        return self.place / ("%s%d" % (name, number))
-
-    def start_hub(self, number: int) -> Process:
-        home = self.path("home", number)
-        home.mkdir()
-        return ready(
-            hub_words(self.program, home / "a.store", ROOT / "docs", "--socket",
-                      str(self.path("own", number)), "--questions",
-                      str(self.path("questions", number))), self.place / "log")
-
     def import_to(self, number: int) -> None:
         """Imports the sample package, also once more."""
-        client = HubClient(str(self.path("own", number)))
-        client.send([b"IMPORT package/Full"])
         self.imports[number] += 1
-        same("an import", client.reply().split()[:2], [b"OK", b"%d" % self.imports[number]])
-        client.close()
+        reply, = self.hubs[number].client().ask("IMPORT package/Full")
+        same("an import", reply.split()[:2], ["OK", str(self.imports[number])])
 
     def start_gateway(self, number: int) -> Process:
-        return ready(
-            gateway_words(self.path("questions", HUB_OF[number]), self.addresses[number],
-                          "--languages", LANGUAGE), self.place / "log")
+        hub = self.hubs[HUB_OF[number]]
+        return ready(gateway_words(hub.questions, self.addresses[number], "--languages", LANGUAGE),
+                     self.place / "log")
 
     def client(self) -> Client:
         return Client(self.proxy, self.proxy.user)
@@ -100,8 +87,10 @@ class Site:
 
     def close(self) -> None:
         self.proxy.end()
-        for process in [*self.gateways, *self.hubs]:
+        for process in self.gateways:
             stop(process)
+        for hub in self.hubs:
+            hub.close()
 
 
 def is_let_in(site: Site, certificate: Optional[Path]) -> bool:
@@ -221,13 +210,10 @@ def without_a_hub(site: Site) -> str:
     """A gateway whose hub has ended is passed over; without any hub the answer is 503."""
     before = len(site.log())
     with Asking(site) as asking:
-        site.hubs[1].send_signal(signal.SIGTERM)
-        same("the end of a hub", site.hubs[1].wait(SECONDS), 0)
+        same("the end of a hub", site.hubs[1].stop(), 0)
     asking.look()
-    same("whether its gateway was passed over", any(map(was_sent_again, site.log()[before:])),
-         True)
-    site.hubs[0].send_signal(signal.SIGTERM)
-    same("the end of the other hub", site.hubs[0].wait(SECONDS), 0)
+    same("whether its gateway was passed over", any(map(was_sent_again, site.log()[before:])), True)
+    same("the end of the other hub", site.hubs[0].stop(), 0)
     status, headers, _ = site.client().told("/health")
     same("without a hub", (status, "retry-after" in headers), (503, True))
     return "%d requests, 0 lost" % asking.answered
@@ -245,27 +231,22 @@ def tried(program: str, kind: Kind, restarts: int) -> None:
             print("%s: %s: %s" % (kind.name, trial.__name__, said), flush=True)
 
 
+def tried_by_all(program: str, restarts: int) -> None:
+    need(OPENSSL)
+    absent = [kind.name for kind in KINDS if shutil.which(kind.name) is None]
+    for kind in KINDS:
+        if kind.name not in absent:
+            tried(program, kind, restarts)
+    if absent:
+        raise NotRun("there is no " + " and no ".join(absent))
+
+
 def main() -> int:
-    parser = argparse.ArgumentParser(description="Tries gateways behind nginx and haproxy.")
-    parser.add_argument("program", type=Path, help="the built sctd")
+    parser = parser_of(__doc__)
     parser.add_argument("--long", dest="restarts", action="store_const", const=LONG_RESTARTS,
                         default=RESTARTS, help="more restarts")
     asked = parser.parse_args()
-    if (lacks := missing(TOOLS)) is not None:
-        print("not run: there is no %s" % lacks)
-        return NOT_RUN
-    absent = [kind.name for kind in KINDS if shutil.which(kind.name) is None]
-    try:
-        for kind in KINDS:
-            if kind.name not in absent:
-                tried(str(asked.program.resolve()), kind, asked.restarts)
-    except (Wrong, HubFailed, OSError, http.client.HTTPException) as why:
-        print("WRONG: %s" % why)
-        return 1
-    if absent:
-        print("skipped: there is no %s" % " and no ".join(absent))
-        return NOT_RUN
-    return 0
+    return tell(lambda: tried_by_all(str(asked.program), asked.restarts))
 
 
 if __name__ == "__main__":

@@ -12,8 +12,13 @@ def tell(text: str) -> None:
         print(text, file=sys.stderr, flush=True)
 
 
+def now() -> str:
+    """The time (UTC)."""
+    return time.strftime("%Y-%m-%dT%H:%M:%SZ", time.gmtime())
+
+
 def log(text: str) -> str:
-    """Writes a line of the log, with the time (UTC), which it returns."""
-    now = time.strftime("%Y-%m-%dT%H:%M:%SZ", time.gmtime())
-    tell("%s %s" % (now, text))
-    return now
+    """Writes a line of the log, with the time, which it returns."""
+    said = now()
+    tell("%s %s" % (said, text))
+    return said

@@ -17,28 +17,9 @@ from urllib.parse import urlencode
 from sctd_service.gateway import limits
 
 from .fixtures import (
-    EDITION,
-    FHIR_JSON,
-    SCT,
-    SECONDS,
-    Gateway,
-    Json,
-    begun_hub,
-    parts_of,
-    told,
-    with_hyphens,
-)
+    EDITION, FHIR_JSON, SCT, SECONDS, Gateway, Json, begun_hub, parts_of, told, with_hyphens)
 from .release_files import (
-    DEFINED,
-    FULLY_SPECIFIED,
-    FURTHER,
-    IS_A,
-    REFSET,
-    Row,
-    Rows,
-    Snapshot,
-    read,
-)
+    DEFINED, FULLY_SPECIFIED, FURTHER, IS_A, REFSET, Row, Rows, Snapshot, read)
 
 # Of each day.
 LOOKUPS, VALIDATIONS, SUBSUMPTIONS, EXPANSIONS, TRANSLATIONS = 240, 60, 36, 18, 28
@@ -53,9 +34,8 @@ MAP, MAP_SYSTEM = "900000000000497000", "urn:of:the:map"
 PACKAGE_WORDS = ("--languages", ",".join(LANGUAGES), "--map", "%s=%s" % (MAP, MAP_SYSTEM))
 # What is asked for by displayLanguage, and which of its languages that is. (It has no other terms
 # than English ones.)
-TAGS = {
-    "en-US": (US,), "en-GB": (GB,), "en": LANGUAGES, "de": (), "fr-CH": (), "*": LANGUAGES,
-    "sv, en-US;q=0.5": (US,)}
+TAGS = {"en-US": (US,), "en-GB": (GB,), "en": LANGUAGES, "de": (), "fr-CH": (), "*": LANGUAGES,
+        "sv, en-US;q=0.5": (US,)}
 ASKED = "sctd-date"
 CONTEXT_PARTS = ("context", "role", "type")
 # How long the release may take to be made or imported.
@@ -72,10 +52,8 @@ class Comparison:
     edition = EDITION
     tags: Mapping[str, tuple[str, ...]] = {}
 
-    def __init__(
-        self, connection: http.client.HTTPConnection, base: str, rows: Rows, seed: int,
-        languages: tuple[str, ...], with_sets: bool = False,
-    ) -> None:
+    def __init__(self, connection: http.client.HTTPConnection, base: str, rows: Rows, seed: int,
+                 languages: tuple[str, ...], with_sets: bool = False) -> None:
         self.connection, self.base = connection, base
         self.rows, self.chance, self.counts = rows, random.Random(seed), Counter[str]()
         self.languages, self.with_sets = languages, with_sets
@@ -88,10 +66,8 @@ class Comparison:
         body = json.dumps({"resourceType": "Parameters", "parameter": parts}).encode()
         return self.asked_by("POST", path, body, {"Content-Type": FHIR_JSON})
 
-    def asked_by(
-        self, method: str, target: str, body: bytes | None = None,
-        headers: dict[str, str] | None = None,
-    ) -> tuple[int, Json]:
+    def asked_by(self, method: str, target: str, body: bytes | None = None,
+                 headers: dict[str, str] | None = None) -> tuple[int, Json]:
         self.connection.request(method, "%s/fhir/%s" % (self.base, target), body, headers or {})
         answer = self.connection.getresponse()
         # A number keeps the digits that it is written with.
@@ -142,9 +118,8 @@ class Comparison:
             for code in self.chance.sample(known, min(TRANSLATIONS, len(known))):
                 self.translate_by_the_map(snapshot, code)
 
-    def display(
-        self, snapshot: Snapshot, code: str, languages: tuple[str, ...] | None = None
-    ) -> str:
+    def display(self, snapshot: Snapshot, code: str,
+                languages: tuple[str, ...] | None = None) -> str:
         """The first preferred term, or the fully specified name of the least id, or else the
         synonym of the least id, or the code."""
         for refset in self.languages if languages is None else languages:
@@ -171,16 +146,10 @@ class Comparison:
         release = max(day for day in self.days if day <= snapshot.day)
         self.alike("version", told(said, "version"), [self.version(release)], *where)
         self.alike("date", told(said, ASKED), self.asked(snapshot), *where)
-        terms = [
-            (one["value"], one["language"], one["use"]["code"])
-            for one in parts_of(said, "designation")
-        ]
-        self.alike(
-            "designation",
-            sorted(terms),
-            sorted((row[7], row[5], row[6]) for row in snapshot.terms(code)),
-            *where,
-        )
+        terms = [(one["value"], one["language"], one["use"]["code"])
+                 for one in parts_of(said, "designation")]
+        self.alike("designation", sorted(terms),
+                   sorted((row[7], row[5], row[6]) for row in snapshot.terms(code)), *where)
         shown = self.display(snapshot, code, languages)
         self.alike("display", told(said, "display"), [shown], *where)
         self.alike("contexts", contexts(said), self.contexts(snapshot, code, languages), *where)
@@ -194,9 +163,8 @@ class Comparison:
         """The days that an answer says were asked for."""
         return [with_hyphens(snapshot.day)]
 
-    def contexts(
-        self, snapshot: Snapshot, code: str, languages: tuple[str, ...]
-    ) -> list[tuple[str, ...]]:
+    def contexts(self, snapshot: Snapshot, code: str,
+                 languages: tuple[str, ...]) -> list[tuple[str, ...]]:
         """Each term with each of the languages that have it, how, and as what."""
         found = []
         for row in snapshot.terms(code):
@@ -243,13 +211,8 @@ class Comparison:
             wanted = "equivalent"
         else:
             wanted = "subsumes" if is_above else "subsumed-by" if is_below else "not-subsumed"
-        said = self.ask(
-            "CodeSystem/$subsumes",
-            system=SCT,
-            codeA=first,
-            codeB=second,
-            version=self.version(snapshot.day),
-        )[1]
+        said = self.ask("CodeSystem/$subsumes", system=SCT, codeA=first, codeB=second,
+                        version=self.version(snapshot.day))[1]
         self.alike("$subsumes", told(said, "outcome"), [wanted], first, second, snapshot.day)
         self.counts["$subsumes " + wanted] += 1
 
@@ -260,18 +223,10 @@ class Comparison:
         members = snapshot.within(top) & snapshot.concepts.keys()
         where = (top, snapshot.day)
         self.alike("$expand", (set(found), said["total"]), (members, str(len(members))), *where)
-        self.alike(
-            "inactive",
-            {code for code, one in found.items() if one.get("inactive")},
-            {code for code in members if snapshot.concepts[code][2] == "0"},
-            *where,
-        )
-        self.alike(
-            "display",
-            {code: one["display"] for code, one in found.items()},
-            {code: self.display(snapshot, code) for code in members},
-            *where,
-        )
+        self.alike("inactive", {code for code, one in found.items() if one.get("inactive")},
+                   {code for code in members if snapshot.concepts[code][2] == "0"}, *where)
+        self.alike("display", {code: one["display"] for code, one in found.items()},
+                   {code: self.display(snapshot, code) for code in members}, *where)
         self.counts["$expand"] += 1
 
     def expand_with_a_filter(self, snapshot: Snapshot, top: str) -> None:
@@ -280,12 +235,8 @@ class Comparison:
         if not terms:
             return
         text = self.chance.choice(terms)[: self.chance.randint(3, 9)].strip()
-        status, said = self.ask(
-            "ValueSet/$expand",
-            filter=text,
-            count=1000,
-            url="%s?fhir_vs=isa/%s" % (self.version(snapshot.day), top),
-        )
+        status, said = self.ask("ValueSet/$expand", filter=text, count=1000,
+                                url="%s?fhir_vs=isa/%s" % (self.version(snapshot.day), top))
         if status == 422:
             every = (row for code in snapshot.concepts for row in snapshot.names(code))
             count = sum(row[7].casefold().startswith(text.casefold()) for row in every)
@@ -293,30 +244,16 @@ class Comparison:
             self.counts["$expand refused, too many terms"] += 1
             return
         self.alike(
-            "$expand filter",
-            {one["code"] for one in said["expansion"].get("contains", [])},
-            {code for code in members if snapshot.begins(code, text)},
-            top,
-            snapshot.day,
-            text,
-        )
+            "$expand filter", {one["code"] for one in said["expansion"].get("contains", [])},
+            {code for code in members if snapshot.begins(code, text)}, top, snapshot.day, text)
         self.counts["$expand with a filter"] += 1
 
     def translate(self, snapshot: Snapshot, code: str, refset: str) -> None:
-        said = self.ask(
-            "ConceptMap/$translate",
-            url="%s?fhir_cm=%s" % (SCT, refset),
-            system=SCT,
-            code=code,
-            version=self.version(snapshot.day),
-        )[1]
-        self.alike(
-            "$translate",
-            sorted(one["concept"]["code"] for one in parts_of(said, "match")),
-            sorted(row[6] for row in snapshot.about["A"][code] if row[4] == refset),
-            code,
-            snapshot.day,
-        )
+        said = self.ask("ConceptMap/$translate", url="%s?fhir_cm=%s" % (SCT, refset), system=SCT,
+                        code=code, version=self.version(snapshot.day))[1]
+        self.alike("$translate", sorted(one["concept"]["code"] for one in parts_of(said, "match")),
+                   sorted(row[6] for row in snapshot.about["A"][code] if row[4] == refset), code,
+                   snapshot.day)
         self.counts["$translate"] += 1
 
     def expand_refset(self, snapshot: Snapshot, refset: str) -> None:
@@ -354,12 +291,8 @@ class Comparison:
         said = self.ask("ConceptMap/$translate", **words)[1]
         targets = dict.fromkeys(row[FURTHER] for row in snapshot.members(MAP, code))
         self.alike(
-            "$translate by the map",
-            [one["concept"] for one in parts_of(said, "match")],
-            [{"system": MAP_SYSTEM, "code": target} for target in targets],
-            code,
-            snapshot.day,
-        )
+            "$translate by the map", [one["concept"] for one in parts_of(said, "match")],
+            [{"system": MAP_SYSTEM, "code": target} for target in targets], code, snapshot.day)
         self.counts["$translate by a map"] += 1
 
 
@@ -389,8 +322,7 @@ def properties(snapshot: Snapshot, code: str) -> dict[str, set[str]]:
         "inactive": {str(concept[2] == "0")},
         "moduleId": {concept[3]},
         "effectiveTime": {concept[1]},
-        "sufficientlyDefined": {str(concept[4] == DEFINED)},
-    }
+        "sufficientlyDefined": {str(concept[4] == DEFINED)}}
     for row in snapshot.about["R"].get(code, []):
         found.setdefault("parent" if row[7] == IS_A else row[7], set()).add(row[5])
     if reasons := {row[FURTHER] for row in snapshot.members(INDICATORS, code)}:
@@ -400,9 +332,8 @@ def properties(snapshot: Snapshot, code: str) -> dict[str, set[str]]:
     return found
 
 
-def compared(
-    program: str, hub: str, rows: int, answers: int, seed: int, is_package: bool = False
-) -> Counter[str]:
+def compared(program: str, hub: str, rows: int, answers: int, seed: int,
+             is_package: bool = False) -> Counter[str]:
     """How many answers of each operation were alike, so many in all, of a made release. Of a
     package preferred terms, reasons, two reference sets and a map are compared too."""
     words = ["--package"] if is_package else []

@@ -33,23 +33,16 @@ FIXED = "id effectiveTime active moduleId refsetId referencedComponentId"
 FILES = {
     "T": ("Terminology/sct2_TextDefinition_Delta-en_INT_%s.txt", demo.COLUMNS["D"]),
     "language": (
-        "Refset/Language/der2_cRefset_LanguageDelta-en_INT_%s.txt",
-        FIXED + " acceptabilityId",
-    ),
+        "Refset/Language/der2_cRefset_LanguageDelta-en_INT_%s.txt", FIXED + " acceptabilityId"),
     "simple": ("Refset/Content/der2_Refset_SimpleDelta_INT_%s.txt", FIXED),
     "value": ("Refset/Content/der2_cRefset_AttributeValueDelta_INT_%s.txt", FIXED + " valueId"),
     "map": ("Refset/Map/der2_sRefset_SimpleMapDelta_INT_%s.txt", FIXED + " mapTarget"),
     "extended": (
         "Refset/Map/der2_iisssccRefset_ExtendedMapDelta_INT_%s.txt",
-        FIXED
-        + " mapGroup mapPriority mapRule mapAdvice mapTarget correlationId mapCategoryId",
-    ),
+        FIXED + " mapGroup mapPriority mapRule mapAdvice mapTarget correlationId mapCategoryId"),
     "odd": ("Refset/Map/der2_ssRefset_OddMapDelta_INT_%s.txt", FIXED + " mapTarget advice"),
-    "descriptor": (
-        "Refset/Metadata/der2_cciRefset_RefsetDescriptorDelta_INT_%s.txt",
-        FIXED + " attributeDescription attributeType attributeOrder",
-    ),
-}
+    "descriptor": ("Refset/Metadata/der2_cciRefset_RefsetDescriptorDelta_INT_%s.txt",
+                   FIXED + " attributeDescription attributeType attributeOrder")}
 METADATA_TAG = " (foundation metadata concept)"
 US_NAME = "United States of America English language reference set"
 GB_NAME = "Great Britain English language reference set"
@@ -69,8 +62,7 @@ METADATA = (
     ("left", "", "Left by all", "reference set"),
     ("never", "", "Never filled", "reference set"),
     ("target column", "", "Target of the house", "root"),
-    ("advice column", "", "Advice <b>bold</b>", "root"),
-)
+    ("advice column", "", "Advice <b>bold</b>", "root"))
 # Says what the columns of other reference sets are.
 DESCRIPTOR, TEXT_TYPE = "900000000000456007", "707000009"
 
@@ -84,16 +76,8 @@ class WholeMaker(Maker):
         for kinds in self.rows.values():
             kinds.update({name: [] for name in FILES})
 
-    def member(
-        self,
-        file: str,
-        day: str,
-        refset: str,
-        component: str,
-        *further: str,
-        known: str = "",
-        active: str = "1",
-    ) -> str:
+    def member(self, file: str, day: str, refset: str, component: str, *further: str,
+               known: str = "", active: str = "1") -> str:
         self.numbers += 1
         known = known or str(uuid.UUID(int=1_000_000 + self.numbers))
         self.put(file, day, known, day, active, demo.CORE, refset, component, *further)
@@ -109,10 +93,8 @@ class WholeMaker(Maker):
         return self.member("language", day, refset, self.described(name, text), how)
 
     def write(self, folder: Path) -> None:
-        members = {
-            release: {file: kinds.pop(file) for file in FILES}
-            for release, kinds in self.rows.items()
-        }
+        members = {release: {file: kinds.pop(file) for file in FILES}
+                   for release, kinds in self.rows.items()}
         super().write(folder)
         for release, files in members.items():
             for file, rows in files.items():
@@ -148,13 +130,9 @@ def languages(maker: WholeMaker) -> None:
     code = maker.concept("anaemia", FIRST_DAY, "Anemia (disorder)", "Anemia", parents=("disease",))
     maker.term(code, FIRST_DAY, "Anaemia")
     maker.term(code, FIRST_DAY, "An\u00e4mie", language="de")
-    for refset, text, how in (
-        (US, "Anemia (disorder)", PREFERRED),
-        (GB, "Anemia (disorder)", PREFERRED),
-        (US, "Anemia", PREFERRED),
-        (GB, "Anaemia", PREFERRED),
-        (GERMAN, "An\u00e4mie", PREFERRED),
-    ):
+    for refset, text, how in ((US, "Anemia (disorder)", PREFERRED),
+                              (GB, "Anemia (disorder)", PREFERRED), (US, "Anemia", PREFERRED),
+                              (GB, "Anaemia", PREFERRED), (GERMAN, "An\u00e4mie", PREFERRED)):
         maker.in_language(FIRST_DAY, refset, "anaemia", text, how)
     # Acceptable in GB for some years.
     known = maker.in_language(FIRST_DAY, GB, "anaemia", "Anemia", ACCEPTABLE)
@@ -217,27 +195,21 @@ def maps(maker: WholeMaker) -> None:
     # (The order of the columns isn't that of the rows; 0 is what each reference set has.)
     for name, place in (("advice column", "2"), ("target column", "1"), ("limb", "0")):
         maker.member(
-            "descriptor", FIRST_DAY, DESCRIPTOR, codes["odd"], codes[name], TEXT_TYPE, place
-        )
+            "descriptor", FIRST_DAY, DESCRIPTOR, codes["odd"], codes[name], TEXT_TYPE, place)
 
 
 def extended_map(maker: WholeMaker) -> None:
     """Two groups, the second of which has a rule alone, and a target that is another one later."""
     code = maker.codes["anaemia"]
     female = "IFA 248152002 | Female (finding) |"
-    ways = (
-        ("1", "2", "OTHERWISE TRUE", "ALWAYS D64.9", "D64.9", NOT_SPECIFIED, PROPERLY),
-        ("2", "1", "TRUE", DEPENDENT, "", NOT_SPECIFIED, DEPENDS),
-    )
+    ways = (("1", "2", "OTHERWISE TRUE", "ALWAYS D64.9", "D64.9", NOT_SPECIFIED, PROPERLY),
+            ("2", "1", "TRUE", DEPENDENT, "", NOT_SPECIFIED, DEPENDS))
     for way in ways:
         maker.member("extended", FIRST_DAY, ICD_10, code, *way)
     first = ("1", "1", female, "IF FEMALE CHOOSE D50.9")
     known = maker.member(
-        "extended", FIRST_DAY, ICD_10, code, *first, "D50.9", NOT_SPECIFIED, PROPERLY
-    )
+        "extended", FIRST_DAY, ICD_10, code, *first, "D50.9", NOT_SPECIFIED, PROPERLY)
     maker.member(
-        "extended", "20200131", ICD_10, code, *first, "D50.8", EXACT, PROPERLY, known=known
-    )
+        "extended", "20200131", ICD_10, code, *first, "D50.8", EXACT, PROPERLY, known=known)
     maker.member(
-        "extended", FIRST_DAY, ICD_10, maker.codes["drug"], *ways[1][:5], NOT_SPECIFIED, DEPENDS
-    )
+        "extended", FIRST_DAY, ICD_10, maker.codes["drug"], *ways[1][:5], NOT_SPECIFIED, DEPENDS)

@@ -33,8 +33,7 @@ FILES = {
     "D": "Terminology/sct2_Description_Delta-en_INT_%s.txt",
     "R": "Terminology/sct2_Relationship_Delta_INT_%s.txt",
     "V": "Terminology/sct2_RelationshipConcreteValues_Delta_INT_%s.txt",
-    "A": "Refset/Content/der2_cRefset_AssociationDelta_INT_%s.txt",
-}
+    "A": "Refset/Content/der2_cRefset_AssociationDelta_INT_%s.txt"}
 # Each release with the last day of its rows.
 RELEASES = {"d1": "20190131", "d2": "20210131", "d3": "20220731"}
 
@@ -44,8 +43,7 @@ class Maker:
 
     def __init__(self) -> None:
         self.rows: dict[str, dict[str, list[tuple[str, ...]]]] = {
-            release: {kind: [] for kind in COLUMNS} for release in RELEASES
-        }
+            release: {kind: [] for kind in COLUMNS} for release in RELEASES}
         self.codes = {"root": ROOT, "isa": IS_A, "module": CORE}
         self.items = {"0": 1000, "1": 5000, "2": 9000}
 
@@ -60,14 +58,8 @@ class Maker:
     def row(self, code: str, day: str, active: str, status: str) -> None:
         self.put("C", day, code, day, active, CORE, status)
 
-    def concept(
-        self,
-        name: str,
-        day: str,
-        *terms: str,
-        status: str = PRIMITIVE,
-        parents: tuple[str, ...] = ("root",),
-    ) -> str:
+    def concept(self, name: str, day: str, *terms: str, status: str = PRIMITIVE,
+                parents: tuple[str, ...] = ("root",)) -> str:
         code = self.codes.get(name) or self.new("0")
         self.codes[name] = code
         self.row(code, day, "1", status)
@@ -78,44 +70,26 @@ class Maker:
                 self.relation(code, day, IS_A, self.codes[parent])
         return code
 
-    def term(
-        self,
-        code: str,
-        day: str,
-        text: str,
-        kind: str = SYNONYM,
-        language: str = "en",
-        known: str = "",
-        active: str = "1",
-    ) -> str:
+    def term(self, code: str, day: str, text: str, kind: str = SYNONYM, language: str = "en",
+             known: str = "", active: str = "1") -> str:
         known = known or self.new("1")
         self.put("D", day, known, day, active, CORE, code, language, kind, text, CASE_INSENSITIVE)
         return known
 
-    def relation(
-        self,
-        code: str,
-        day: str,
-        kind: str,
-        target: str,
-        group: str = "0",
-        known: str = "",
-        active: str = "1",
-    ) -> str:
+    def relation(self, code: str, day: str, kind: str, target: str, group: str = "0",
+                 known: str = "", active: str = "1") -> str:
         known = known or self.new("2")
         self.put("R", day, known, day, active, CORE, code, target, group, kind, INFERRED, MODIFIER)
         return known
 
-    def value(
-        self, code: str, day: str, kind: str, value: str, known: str = "", active: str = "1"
-    ) -> str:
+    def value(self, code: str, day: str, kind: str, value: str, known: str = "",
+              active: str = "1") -> str:
         known = known or self.new("2")
         self.put("V", day, known, day, active, CORE, code, value, "1", kind, INFERRED, MODIFIER)
         return known
 
-    def association(
-        self, number: int, day: str, refset: str, source: str, target: str, active: str = "1"
-    ) -> None:
+    def association(self, number: int, day: str, refset: str, source: str, target: str,
+                    active: str = "1") -> None:
         member = str(uuid.UUID(int=number))
         self.put("A", day, member, day, active, CORE, refset, source, target)
 
@@ -149,14 +123,11 @@ def fill(maker: Maker) -> None:
 def metadata(maker: Maker) -> None:
     maker.concept("root", FIRST_DAY, "SNOMED CT Concept (SNOMED RT+CTV3)")
     for name, text in (
-        ("isa", "Is a (attribute)"),
-        ("module", "SNOMED CT core module (core metadata concept)"),
-        ("site", "Finding site (attribute)"),
-        ("form", "Associated morphology (attribute)"),
-        ("ingredient", "Has active ingredient (attribute)"),
-        ("strength", "Has strength value (attribute)"),
-        ("unit", "Has unit text (attribute)"),
-    ):
+            ("isa", "Is a (attribute)"),
+            ("module", "SNOMED CT core module (core metadata concept)"),
+            ("site", "Finding site (attribute)"), ("form", "Associated morphology (attribute)"),
+            ("ingredient", "Has active ingredient (attribute)"),
+            ("strength", "Has strength value (attribute)"), ("unit", "Has unit text (attribute)")):
         maker.concept(name, FIRST_DAY, text)
 
 
@@ -166,22 +137,15 @@ def hierarchy(maker: Maker) -> None:
     maker.concept("injury", FIRST_DAY, "Injury of upper limb (disorder)", parents=("disease",))
     maker.concept("body", FIRST_DAY, "Wrist region structure (body structure)")
     maker.concept(
-        "bone", FIRST_DAY, "Bone structure of distal radius (body structure)", parents=("body",)
-    )
+        "bone", FIRST_DAY, "Bone structure of distal radius (body structure)", parents=("body",))
     maker.concept("fracture", FIRST_DAY, "Fracture (morphologic abnormality)")
     maker.concept("product", FIRST_DAY, "Medicinal product (product)")
     maker.concept("substance", FIRST_DAY, "Paracetamol (substance)")
     limb = maker.concept("limb", FIRST_DAY, parents=("injury",))
     old = maker.term(limb, FIRST_DAY, "Fracture of upper limb (disorder)", FULLY_SPECIFIED)
     maker.term(limb, "20190131", "Fracture of bone of upper limb (disorder)", FULLY_SPECIFIED)
-    maker.term(
-        limb,
-        "20190131",
-        "Fracture of upper limb (disorder)",
-        FULLY_SPECIFIED,
-        known=old,
-        active="0",
-    )
+    maker.term(limb, "20190131", "Fracture of upper limb (disorder)", FULLY_SPECIFIED, known=old,
+               active="0")
 
 
 def wrist(maker: Maker) -> None:
@@ -200,8 +164,7 @@ def wrist(maker: Maker) -> None:
     brief = maker.term(code, "20180705", "Breach of wrist")
     maker.term(code, "20180720", "Breach of wrist", known=brief, active="0")
     maker.term(
-        code, "20180731", "Fracture of wrist joint region (disorder)", FULLY_SPECIFIED, known=name
-    )
+        code, "20180731", "Fracture of wrist joint region (disorder)", FULLY_SPECIFIED, known=name)
     maker.row(code, "20180731", "1", DEFINED)
     maker.relation(code, "20190131", IS_A, maker.codes["injury"], known=parent, active="0")
     second = maker.relation(code, "20190131", IS_A, maker.codes["limb"])
@@ -215,32 +178,17 @@ def wrist(maker: Maker) -> None:
 def replacements(maker: Maker) -> None:
     """What takes the wrist's place, one of which is itself retired later."""
     old = maker.codes["wrist"]
-    radius = maker.concept(
-        "radius",
-        "20200731",
-        "Fracture of distal end of radius (disorder)",
-        "Distal radius fracture",
-        parents=("limb",),
-        status=DEFINED,
-    )
+    radius = maker.concept("radius", "20200731", "Fracture of distal end of radius (disorder)",
+                           "Distal radius fracture", parents=("limb",), status=DEFINED)
     maker.relation(radius, "20200731", maker.codes["site"], maker.codes["bone"], "1")
     maker.relation(radius, "20200731", maker.codes["form"], maker.codes["fracture"], "1")
     carpal = maker.concept(
-        "carpal", "20200731", "Fracture of carpal bone (disorder)", parents=("limb",)
-    )
-    for number, refset, target in (
-        (77, REPLACED_BY, radius),
-        (78, POSSIBLY_EQUIVALENT_TO, radius),
-        (79, POSSIBLY_EQUIVALENT_TO, carpal),
-    ):
+        "carpal", "20200731", "Fracture of carpal bone (disorder)", parents=("limb",))
+    for number, refset, target in ((77, REPLACED_BY, radius), (78, POSSIBLY_EQUIVALENT_TO, radius),
+                                   (79, POSSIBLY_EQUIVALENT_TO, carpal)):
         maker.association(number, "20210131", refset, old, target)
-    later = maker.concept(
-        "radius2",
-        "20220731",
-        "Fracture of distal radius (disorder)",
-        parents=("limb",),
-        status=DEFINED,
-    )
+    later = maker.concept("radius2", "20220731", "Fracture of distal radius (disorder)",
+                          parents=("limb",), status=DEFINED)
     maker.row(radius, "20220731", "0", DEFINED)
     # In the place of this one a release names what is no concept, and one that nothing tells of.
     lost = maker.concept("lost", FIRST_DAY, parents=())
@@ -259,12 +207,8 @@ def vague_associations(maker: Maker) -> None:
     maker.row(vague, "20170731", "0", PRIMITIVE)
     maker.association(120, "20170731", MOVED_TO, vague, namespace)
     for number, refset, target in (
-        (121, WAS_A, "injury"),
-        (122, SIMILAR_TO, "limb"),
-        (123, ALTERNATIVE, "limb"),
-        (124, POSSIBLY_REPLACED_BY, "limb"),
-        (125, PARTIALLY_EQUIVALENT_TO, "limb"),
-    ):
+            (121, WAS_A, "injury"), (122, SIMILAR_TO, "limb"), (123, ALTERNATIVE, "limb"),
+            (124, POSSIBLY_REPLACED_BY, "limb"), (125, PARTIALLY_EQUIVALENT_TO, "limb")):
         maker.association(number, "20170731", refset, vague, maker.codes[target])
     # One that was never active.
     maker.association(126, "20170731", WAS_A, maker.codes["limb"], maker.codes["injury"], "0")
@@ -272,13 +216,8 @@ def vague_associations(maker: Maker) -> None:
 
 def drug(maker: Maker) -> None:
     """A concept with concrete values, one of which is exchanged for one with other digits."""
-    code = maker.concept(
-        "drug",
-        FIRST_DAY,
-        "Paracetamol 500 mg oral tablet (clinical drug)",
-        parents=("product",),
-        status=DEFINED,
-    )
+    code = maker.concept("drug", FIRST_DAY, "Paracetamol 500 mg oral tablet (clinical drug)",
+                         parents=("product",), status=DEFINED)
     maker.relation(code, FIRST_DAY, maker.codes["ingredient"], maker.codes["substance"], "1")
     strength = maker.value(code, FIRST_DAY, maker.codes["strength"], "#500")
     maker.value(code, FIRST_DAY, maker.codes["unit"], '"mg"')
@@ -288,14 +227,7 @@ def drug(maker: Maker) -> None:
 
 def hostile(maker: Maker) -> None:
     name = '<script>alert(1)</script> & "quoted" <img src=x onerror=alert(2)> (finding)'
-    code = maker.concept(
-        "evil",
-        FIRST_DAY,
-        name,
-        "Hostile </textarea><script>alert(3)</script>",
-        "Turned \u202e text \u200b\u0007 here",
-        "Carriage\rreturn",
-        "{{content}} {{q}} ' onfocus='alert(4)",
-        parents=("finding",),
-    )
+    code = maker.concept("evil", FIRST_DAY, name, "Hostile </textarea><script>alert(3)</script>",
+                         "Turned \u202e text \u200b\u0007 here", "Carriage\rreturn",
+                         "{{content}} {{q}} ' onfocus='alert(4)", parents=("finding",))
     maker.term(code, FIRST_DAY, LONG_TERM)

@@ -9,30 +9,14 @@ from pathlib import Path
 
 from make_release import sctid
 
-from .demo_releases import (
-    CASE_INSENSITIVE,
-    COLUMNS,
-    CORE,
-    DEFINED,
-    FULLY_SPECIFIED,
-    INFERRED,
-    IS_A,
-    MODIFIER,
-    PRIMITIVE,
-    ROOT,
-    SYNONYM,
-)
+from .demo_releases import (CASE_INSENSITIVE, COLUMNS, CORE, DEFINED, FULLY_SPECIFIED, INFERRED,
+                            IS_A, MODIFIER, PRIMITIVE, ROOT, SYNONYM)
 from .demo_members import ACCEPTABLE, DESCRIPTOR, FIXED, GB, PREFERRED, TEXT_TYPE, US
 
 MODEL = "900000000000012004"
 TEXT_DEFINITION = "900000000000550004"
-ASSOCIATIONS = (
-    "900000000000527005",
-    "900000000000526001",
-    "900000000000528000",
-    "1186924009",
-    "900000000000523009",
-)
+ASSOCIATIONS = ("900000000000527005", "900000000000526001", "900000000000528000", "1186924009",
+                "900000000000523009")
 DAYS = ("20200131", "20200731", "20210131", "20210731", "20220131", "20220731")
 RELEASES = ("e1", "e2")
 FIRST_SHARE = 0.7
@@ -40,10 +24,8 @@ CONCEPTS = 60
 TERMS = ("acute", "chronic", "fracture of heart", "Straße", "Ödem", "B12 4.5 mg/mL")
 VALUES = ("#5", "#0.5", "#12.50", "#-3", '"tablet"', '"Oral tablet"', '"x"', "true")
 # The concepts of RefsetDescriptor that say what the columns are.
-NAMED = {
-    "900000000000511003": "Acceptability (foundation metadata concept)",
-    "900000000000505001": "Map target (foundation metadata concept)",
-}
+NAMED = {"900000000000511003": "Acceptability (foundation metadata concept)",
+         "900000000000505001": "Map target (foundation metadata concept)"}
 MAP_FIELDS = " mapGroup mapPriority mapRule mapAdvice mapTarget correlationId mapCategoryId"
 FILES = {
     "C": ("Terminology/sct2_Concept_Full_INT_20220731.txt", COLUMNS["C"]),
@@ -53,17 +35,12 @@ FILES = {
     "V": ("Terminology/sct2_RelationshipConcreteValues_Full_INT_20220731.txt", COLUMNS["V"]),
     "A": ("Refset/Content/der2_cRefset_AssociationFull_INT_20220731.txt", COLUMNS["A"]),
     "S": ("Refset/Content/der2_Refset_SimpleFull_INT_20220731.txt", FIXED),
-    "L": (
-        "Refset/Language/der2_cRefset_LanguageFull-en_INT_20220731.txt",
-        FIXED + " acceptabilityId",
-    ),
+    "L": ("Refset/Language/der2_cRefset_LanguageFull-en_INT_20220731.txt",
+          FIXED + " acceptabilityId"),
     "P": ("Refset/Map/der2_sRefset_SimpleMapFull_INT_20220731.txt", FIXED + " mapTarget"),
     "E": ("Refset/Map/der2_iisssccRefset_ExtendedMapFull_INT_20220731.txt", FIXED + MAP_FIELDS),
-    "N": (
-        "Refset/Metadata/der2_cciRefset_RefsetDescriptorFull_INT_20220731.txt",
-        FIXED + " attributeDescription attributeType attributeOrder",
-    ),
-}
+    "N": ("Refset/Metadata/der2_cciRefset_RefsetDescriptorFull_INT_20220731.txt",
+          FIXED + " attributeDescription attributeType attributeOrder")}
 # What each release has, since nothing would be called by its name without it.
 WHOLE = "N"
 
@@ -122,9 +99,7 @@ class Maker:
                 self.is_a(concept, above if self.chance.random() < 0.97 else self.concepts)
 
     def is_a(self, concept: str, above: Sequence[str]) -> None:
-        self.versions(
-            "R", self.new("02"), [concept], above, ["0"], [IS_A], [INFERRED], [MODIFIER]
-        )
+        self.versions("R", self.new("02"), [concept], above, ["0"], [IS_A], [INFERRED], [MODIFIER])
 
     def relationships(self) -> None:
         groups = ("0", "1", "1", "2", "3")
@@ -164,8 +139,7 @@ class Maker:
                 row = (["1", "2"], ["1", "2", "3"], ["TRUE", "IFA x"], ["ALWAYS J45"])
                 codes = (["J45.9", "J46", "A01"], [self.concepts[1]], self.concepts[2:5])
                 self.versions(
-                    "E", self.new_member(), [self.extended], [self.a_concept()], *row, *codes
-                )
+                    "E", self.new_member(), [self.extended], [self.a_concept()], *row, *codes)
 
     def descriptor(self) -> None:
         """Which columns the languages and the simple map have, on every day and in each release."""

@@ -14,19 +14,11 @@ from pathlib import Path
 from sctd_service.gateway.ecl import syntax as s
 
 IS_A = "116680003"
-LETTERS = {
-    "sct2_Concept_": "C",
-    "sct2_Description_": "D",
-    "sct2_TextDefinition_": "D",
-    "sct2_RelationshipConcreteValues_": "V",
-    "sct2_Relationship_": "R",
-    "der2_cRefset_Association": "A",
-    "der2_": "M",
-}
-PROFILES = {
-    "MIN": ["900000000000527005"],
-    "MOD": ["900000000000527005", "900000000000526001", "900000000000528000", "1186924009"],
-}
+LETTERS = {"sct2_Concept_": "C", "sct2_Description_": "D", "sct2_TextDefinition_": "D",
+           "sct2_RelationshipConcreteValues_": "V", "sct2_Relationship_": "R",
+           "der2_cRefset_Association": "A", "der2_": "M"}
+PROFILES = {"MIN": ["900000000000527005"],
+            "MOD": ["900000000000527005", "900000000000526001", "900000000000528000", "1186924009"]}
 Row = dict[str, str]
 Versions = dict[tuple[str, str], list[Row]]
 
@@ -119,15 +111,10 @@ class ByFiles:
                 return self.is_member(code, e)
             case s.Refined(focus, refinement):
                 return self.is_in(code, focus) and self.fits(
-                    code, self.attributes(code), refinement
-                )
+                    code, self.attributes(code), refinement)
             case s.Dotted(focus, attribute):
-                return any(
-                    row["typeId"] != IS_A
-                    and self.is_any(row["typeId"], attribute)
-                    and self.is_in(row["sourceId"], focus)
-                    for row in self.to[code]
-                )
+                return any(row["typeId"] != IS_A and self.is_any(row["typeId"], attribute)
+                           and self.is_in(row["sourceId"], focus) for row in self.to[code])
             case s.Filtered():
                 return self.is_filtered(code, e)
             case s.WithHistory():
@@ -154,11 +141,9 @@ class ByFiles:
         asks_active = "active" in [f.name for f in e.filters]
         return is_concept_id(code) and any(
             row.get(e.field or "referencedComponentId") == code
-            and (row["active"] == "1" or asks_active)
-            and self.is_named(row["refsetId"], e.refsets)
+            and (row["active"] == "1" or asks_active) and self.is_named(row["refsetId"], e.refsets)
             and all(f.name in row and self.says(row[f.name], f) for f in e.filters)
-            for row in self.all["A"] + self.all["M"]
-        )
+            for row in self.all["A"] + self.all["M"])
 
     def asks_no_column(self, tree: object) -> bool:
         """Whether a part asks for a column of members that none of its reference sets has."""
@@ -183,11 +168,8 @@ class ByFiles:
         if code not in self.concepts or self.concepts[code]["active"] == "1":
             return False
         return any(
-            row["referencedComponentId"] == code
-            and self.is_in(row["targetComponentId"], e.focus)
-            and self.is_of_profile(row["refsetId"], e.by)
-            for row in self.active("A")
-        )
+            row["referencedComponentId"] == code and self.is_in(row["targetComponentId"], e.focus)
+            and self.is_of_profile(row["refsetId"], e.by) for row in self.active("A"))
 
     def is_of_profile(self, refset: str, by: str | s.Expression) -> bool:
         if not isinstance(by, str):
@@ -210,19 +192,13 @@ class ByFiles:
             return within(count, r.cardinality)
         if r.is_reverse:
             assert not isinstance(r.value, s.Concrete)
-            sources = {
-                row["sourceId"]
-                for row in self.to[code]
-                if row["typeId"] != IS_A
-                and self.is_any(row["typeId"], r.name)
-                and self.is_any(row["sourceId"], r.value) == (r.comparison == "=")
-            }
+            sources = {row["sourceId"] for row in self.to[code] if row["typeId"] != IS_A
+                       and self.is_any(row["typeId"], r.name)
+                       and self.is_any(row["sourceId"], r.value) == (r.comparison == "=")}
             return within(len(sources), r.cardinality)
         counted = {
             (row["relationshipGroup"], row["typeId"], row.get("destinationId"), row.get("value"))
-            for row in rows
-            if self.is_any(row["typeId"], r.name) and self.has_value(row, r)
-        }
+            for row in rows if self.is_any(row["typeId"], r.name) and self.has_value(row, r)}
         return within(len(counted), r.cardinality)
 
     def has_value(self, row: Row, r: s.Attribute) -> bool:
@@ -239,8 +215,7 @@ class ByFiles:
             case _:
                 is_there = "destinationId" in row
                 return is_there and self.is_any(row["destinationId"], r.value) == (
-                    r.comparison == "="
-                )
+                    r.comparison == "=")
 
     def is_filtered(self, code: str, e: s.Filtered) -> bool:
         asks_active = "active" in [f.name for f in e.filters]
@@ -250,11 +225,8 @@ class ByFiles:
             is_there = row is not None and (is_any or self.is_in(code, e.focus))
             return is_there and all(self.says(row[f.name], f) for f in e.filters if row)
         return self.is_in(code, e.focus) and any(
-            row["conceptId"] == code
-            and (asks_active or row["active"] == "1")
-            and all(self.description_says(row, f) for f in e.filters)
-            for row in self.all["D"]
-        )
+            row["conceptId"] == code and (asks_active or row["active"] == "1")
+            and all(self.description_says(row, f) for f in e.filters) for row in self.all["D"])
 
     def description_says(self, row: Row, f: s.Filter) -> bool:
         if f.name == "language":
@@ -262,10 +234,8 @@ class ByFiles:
         if f.name != "dialectId":
             return self.says(row[f.name], f)
         return (f.comparison == "=") == any(
-            member["referencedComponentId"] == row["id"]
-            and self.is_in_dialect(member, f)
-            for member in self.active("M")
-        )
+            member["referencedComponentId"] == row["id"] and self.is_in_dialect(member, f)
+            for member in self.active("M"))
 
     def is_in_dialect(self, member: Row, f: s.Filter) -> bool:
         """A dialect of a list counts with its own acceptabilities, or else with those of all."""
@@ -320,8 +290,7 @@ def text_fits(said: str, wanted: s.Text) -> bool:
         if wanted.how == "exact" and said == text:
             return True
         if wanted.how == "match" and all(
-            any(word[: len(one)] == one for word in words_in(said)) for one in words_in(text)
-        ):
+                any(word[: len(one)] == one for word in words_in(said)) for one in words_in(text)):
             return True
         if wanted.how == "wild" and is_like(plain(said), plain(text)):
             return True

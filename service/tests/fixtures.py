@@ -17,6 +17,8 @@ from pathlib import Path
 from typing import Any
 from urllib.parse import urlencode
 
+from sctd_service.protocol import HubClient, last_line
+
 from . import demo_members, demo_releases
 from .recorder import Recorder
 
@@ -26,9 +28,7 @@ SCT, EDITION = "http://snomed.info/sct", "900000000000207008"
 FHIR_JSON = "application/fhir+json"
 # The head of a $lookup by POST, without what says how long its body is.
 POST = (
-    b"POST /fhir/CodeSystem/$lookup HTTP/1.1\r\nHost: x\r\n"
-    b"Content-Type: application/json\r\n"
-)
+    b"POST /fhir/CodeSystem/$lookup HTTP/1.1\r\nHost: x\r\n" b"Content-Type: application/json\r\n")
 # What is empty in JSON, and no quotation mark at the end of a text.
 EMPTY = re.compile(rb'\[\]|null|\{\}|(?<!\\)""')
 # How long an answer may take here: more than the gateway's own limit.
@@ -44,30 +44,14 @@ def program_and_hub() -> tuple[str, str]:
 class Gateway:
     """A gateway that runs, and what it writes to standard error."""
 
-    def __init__(
-        self, hub: str, folder: Path, listen: str = "", words: Sequence[str] = ()
-    ) -> None:
+    def __init__(self, hub: str, folder: Path, listen: str = "", words: Sequence[str] = ()) -> None:
         self.socket = listen or str(folder / "http")
         self.log = folder / "log"
         with open(self.log, "wb") as log:
             self.process = subprocess.Popen(
-                [
-                    sys.executable,
-                    "-m",
-                    "sctd_service.gateway",
-                    "--socket",
-                    hub,
-                    "--edition",
-                    EDITION,
-                    "--listen",
-                    self.socket,
-                    *words,
-                ],
-                cwd=SERVICE,
-                stdout=subprocess.PIPE,
-                stderr=log,
-                text=True,
-            )
+                [sys.executable, "-m", "sctd_service.gateway", "--socket", hub, "--edition",
+                 EDITION, "--listen", self.socket, *words],
+                cwd=SERVICE, stdout=subprocess.PIPE, stderr=log, text=True)
         assert self.process.stdout is not None
         assert self.process.stdout.readline() == "OK ready\n", self.told()
 
@@ -80,13 +64,8 @@ class Gateway:
         connection.connect(self.socket)
         return connection
 
-    def send(
-        self,
-        method: str,
-        target: str,
-        body: bytes | None = None,
-        headers: dict[str, str] | None = None,
-    ) -> "Answer":
+    def send(self, method: str, target: str, body: bytes | None = None,
+             headers: dict[str, str] | None = None) -> "Answer":
         connection = http.client.HTTPConnection("x", timeout=SECONDS)
         connection.sock = self.connect()
         try:
@@ -107,11 +86,9 @@ class Gateway:
             return got
 
     def fhir(self, path: str, base: str = "/fhir/", **words: Any) -> tuple[int, Json]:
-        pairs = [
-            (name.replace("_", "-") if name == "system_version" else name, one)
-            for name, value in words.items()
-            for one in (value if isinstance(value, list) else [value])
-        ]
+        pairs = [(name.replace("_", "-") if name == "system_version" else name, one)
+                 for name, value in words.items()
+                 for one in (value if isinstance(value, list) else [value])]
         answer = self.send("GET", base + path + ("?" + urlencode(pairs) if pairs else ""))
         assert answer.headers["content-type"] == FHIR_JSON + "; charset=utf-8", answer.headers
         # FHIR's JSON has nothing that is empty.
@@ -148,13 +125,8 @@ class Service:
     """A store of a layout, its hub and its gateway. What the gateway asks is recorded, and the
     releases are whole packages, if that is wanted."""
 
-    def __init__(
-        self,
-        is_recorded: bool = False,
-        layout: int = 3,
-        is_whole: bool = False,
-        words: Sequence[str] = (),
-    ) -> None:
+    def __init__(self, is_recorded: bool = False, layout: int = 3, is_whole: bool = False,
+                 words: Sequence[str] = ()) -> None:
         self.program, self.hub_script = program_and_hub()
         self.folder = tempfile.TemporaryDirectory()
         root = Path(self.folder.name)
@@ -183,6 +155,20 @@ class Service:
         words = (self.hub_script, self.program, self.store, str(self.releases), *sockets)
         self.hub = begun_hub(*words)
 
+    def asked(self, line: str) -> str:
+        """The last line of the reply to a line on the hub's own socket, or without a hub that of
+        the program."""
+        if self.hub is None:
+            words = [self.program, "serve", "--store", self.store, "--releases", "."]
+            done = subprocess.run(
+                words, input="0 %s\n" % line, text=True, stdout=subprocess.PIPE, check=True
+            )
+            last: str = done.stdout.splitlines()[-1]
+            return last
+        with HubClient(self.socket) as hub:
+            hub.send([line.encode()])
+            return last_line(hub.reply()).decode()
+
     def stop_hub(self) -> None:
         if self.hub and self.hub.stdout:
             self.hub.terminate()
@@ -210,9 +196,8 @@ class Service:
         self.folder.cleanup()
 
 
-def begun_hub(
-    hub: str, program: str, store: str, releases: str, *sockets: str
-) -> "subprocess.Popen[str]":
+def begun_hub(hub: str, program: str, store: str, releases: str,
+              *sockets: str) -> "subprocess.Popen[str]":
     """Starts a hub with these sockets, and waits until it answers."""
     words = ["--program", program, "--store", store, "--releases", releases, *sockets]
     begun = subprocess.Popen([sys.executable, hub, *words], stdout=subprocess.PIPE, text=True)
@@ -247,11 +232,8 @@ def properties(resource: Json) -> dict[str, list[Any]]:
 
 def parts_of(resource: Json, name: str) -> list[Json]:
     """The parts of each parameter of that name, by their names."""
-    return [
-        {one["name"]: value(one) for one in part["part"]}
-        for part in resource["parameter"]
-        if part["name"] == name
-    ]
+    return [{one["name"]: value(one) for one in part["part"]} for part in resource["parameter"]
+            if part["name"] == name]
 
 
 def issue(resource: Json) -> str:

@@ -26,8 +26,7 @@ class Recorder:
             hub.connect(self.hub)
             for source, target, is_kept in ((client, hub, True), (hub, client, False)):
                 threading.Thread(
-                    target=self.forward, args=(source, target, is_kept), daemon=True
-                ).start()
+                    target=self.forward, args=(source, target, is_kept), daemon=True).start()
 
     def forward(self, source: socket.socket, target: socket.socket, is_kept: bool) -> None:
         rest = b""

@@ -14,8 +14,7 @@ FILES = {
     "R": ["Terminology/sct2_Relationship_*"],
     "V": ["Terminology/sct2_RelationshipConcreteValues_*"],
     "A": ["Refset/Content/der2_cRefset_Association*"],
-    "M": ["Terminology/sct2_*Refset_*", "Refset/*/der2_*Refset_*"],
-}
+    "M": ["Terminology/sct2_*Refset_*", "Refset/*/der2_*Refset_*"]}
 # The column that says which component a row is about.
 ABOUT = {"D": 4, "R": 4, "V": 4, "A": 5, "M": 5}
 # Those of a member: its reference set, and the first of its own.
@@ -93,13 +92,9 @@ class Snapshot:
     def preferred(self, code: str, refset: str) -> list[str]:
         """The synonyms that a language prefers, by their ids."""
         synonyms = sorted(
-            (row for row in self.terms(code) if row[6] == SYNONYM), key=lambda row: int(row[0])
-        )
-        return [
-            row[7]
-            for row in synonyms
-            if any(one[FURTHER] == PREFERRED for one in self.members(refset, row[0]))
-        ]
+            (row for row in self.terms(code) if row[6] == SYNONYM), key=lambda row: int(row[0]))
+        return [row[7] for row in synonyms
+                if any(one[FURTHER] == PREFERRED for one in self.members(refset, row[0]))]
 
 
 def latest(rows: Iterable[Row], day: str) -> dict[str, Row]:

@@ -30,7 +30,7 @@ class Crowd(View):
     def __init__(self, count: int) -> None:
         self.codes = [str(sctid(9_000 + number, "00")) for number in range(count)]
         self.days, self.latest = ["20200101", "20210101"], "20210101"
-        self.pin, self.receipt = 1, "-"
+        self.pin, self.receipt, self.known = 1, "-", None
 
     async def versions(self, code: str) -> list[Concept]:
         return [Concept(code, "20200101", "1", "1", "1")]
@@ -43,19 +43,15 @@ class Crowd(View):
         for start in range(0, len(rows), limits.QUESTION_ROWS):
             yield rows[start : start + limits.QUESTION_ROWS]
 
-    async def rows_on(
-        self, components: Sequence[tuple[str, str]], day: str
-    ) -> list[AnyRow | None]:
+    async def rows_on(self, components: Sequence[tuple[str, str]], day: str) -> list[AnyRow | None]:
         return [Concept(name, day, "1", "1", "1") for _, name in components]
 
-    async def concepts(
-        self, codes: Sequence[str], day: str, keep: bool = True
-    ) -> list[Concept | None]:
+    async def concepts(self, codes: Sequence[str], day: str,
+                       keep: bool = True) -> list[Concept | None]:
         return [Concept(one, day, "1", "1", "1") for one in codes]
 
-    async def names(
-        self, codes: Iterable[str], day: str, language: Language = ANY
-    ) -> dict[str, str]:
+    async def names(self, codes: Iterable[str], day: str,
+                    language: Language = ANY) -> dict[str, str]:
         return {code: code for code in codes}
 
 
@@ -104,27 +100,20 @@ class TestChanges(Asked):
         found = self.file(codes["finding"], "2019-01-31")
         statuses = {row["code"]: (row["status_from"], row["status_to"]) for row in found}
         assert statuses == {
-            codes["wrist"]: ("active", "inactive"),
-            codes["radius"]: ("absent", "inactive"),
-            codes["carpal"]: ("absent", "active"),
-            codes["radius2"]: ("absent", "active"),
-        }
+            codes["wrist"]: ("active", "inactive"), codes["radius"]: ("absent", "inactive"),
+            codes["carpal"]: ("absent", "active"), codes["radius2"]: ("absent", "active")}
         told = {(row["code"], row["kind"], row["effectiveTime"], row["change"]) for row in found}
-        for one in (
-            ("wrist", "C", "20210131", "Concept inactive; Now primitive"),
-            ("wrist", "R", "20210131",
-             "Parent withdrawn: Fracture of bone of upper limb (disorder)"),
-            ("wrist", "A", "20210131", "Replaced by: Fracture of distal end of radius (disorder)"),
-            ("carpal", "D", "20200731", "Name added: Fracture of carpal bone (disorder)"),
-            ("radius", "A", "20220731", "Same as: Fracture of distal radius (disorder)"),
-        ):
+        for one in (("wrist", "C", "20210131", "Concept inactive; Now primitive"),
+                    ("wrist", "R", "20210131",
+                     "Parent withdrawn: Fracture of bone of upper limb (disorder)"),
+                    ("wrist", "A", "20210131",
+                     "Replaced by: Fracture of distal end of radius (disorder)"),
+                    ("carpal", "D", "20200731", "Name added: Fracture of carpal bone (disorder)"),
+                    ("radius", "A", "20220731", "Same as: Fracture of distal radius (disorder)")):
             assert (codes[one[0]], *one[1:]) in told, one
-        assert [row["code"] for row in found] == sorted(
-            (row["code"] for row in found), key=int
-        )
-        assert {(row["pin"], row["receipt"]) for row in found} == {
-            ("3", "RECEIPT 3: OK 3 5 20220731")
-        }
+        assert [row["code"] for row in found] == sorted((row["code"] for row in found), key=int)
+        assert {(row["pin"], row["receipt"]) for row in found} == {(
+            "3", "RECEIPT 3: OK 3 5 20220731")}
 
     def test_days_are_those_of_the_delta(self) -> None:
         """The first day isn't among them, the last one is."""
@@ -173,8 +162,7 @@ class TestChanges(Asked):
         moved = '<span class="active">active</span> \u2192 <span class="inactive">inactive</span>'
         assert moved in rows[codes["wrist"]]
         assert "<li>Name added: <bdi>Fracture of carpal bone (disorder)</bdi></li>" in rows[
-            codes["carpal"]
-        ]
+            codes["carpal"]]
         leads = '<a href="./?q=%s&amp;date=2022-07-31"><bdi>Fracture of carpal bone ('
         assert leads % codes["carpal"] in text
         none = self.page(concept=codes["finding"], from_="2022-07-31", to="2022-08-01")[1]
@@ -210,27 +198,21 @@ class TestChanges(Asked):
             ({"concept": "12345678", "from_": "2019-01-31"}, "isn\u2019t a concept\u2019s code"),
             ({"concept": str(sctid(999_999, "00")), "from_": "2019-01-31"}, "has no concept"),
             ({"concept": limb, "from_": "2019-01-31", "to": "2019-01-31"}, "isn\u2019t before"),
-            ({"concept": limb, "from_": "2010-01-31"}, "The store knows nothing of"),
-        )
+            ({"concept": limb, "from_": "2010-01-31"}, "The store knows nothing of"))
         for words, said in cases:
             status, text = self.page(**words)
             assert (status, said in text) == (200, True), words
             assert "<table" not in text
         for wrong in (
-            {"concept": limb, "from_": "2019-02-31"},
-            {"concept": limb, "from_": "20190131"},
-            {"concept": limb, "from_": "2019-01-31", "other": "1"},
-            {"concept": limb, "from_": "2019-01-31", "format": "xml"},
-            {"format": "CSV"},
-        ):
+                {"concept": limb, "from_": "2019-02-31"}, {"concept": limb, "from_": "20190131"},
+                {"concept": limb, "from_": "2019-01-31", "other": "1"},
+                {"concept": limb, "from_": "2019-01-31", "format": "xml"}, {"format": "CSV"}):
             assert self.page(**wrong)[0] == 400, wrong
 
     def test_nothing_is_markup_that_came_as_text(self) -> None:
         evil = self.codes["evil"]
-        for text in (
-            self.page(concept=evil, from_="2015-01-31")[1],
-            self.page(concept='"><script>alert(1)</script>', from_="2015-01-31")[1],
-        ):
+        for text in (self.page(concept=evil, from_="2015-01-31")[1],
+                     self.page(concept='"><script>alert(1)</script>', from_="2015-01-31")[1]):
             assert re.findall('<script(?! src="page.js" defer>)', text) == []
 
     def test_cells_that_would_be_calculated(self) -> None:

@@ -11,18 +11,8 @@ from sctd_service.gateway import limits
 
 from . import demo_members as demo
 from .asked import Asked
-from .demo_releases import (
-    ALTERNATIVE,
-    MOVED_TO,
-    POSSIBLY_EQUIVALENT_TO,
-    PARTIALLY_EQUIVALENT_TO,
-    POSSIBLY_REPLACED_BY,
-    RELEASES,
-    REPLACED_BY,
-    SAME_AS,
-    SIMILAR_TO,
-    WAS_A,
-)
+from .demo_releases import (ALTERNATIVE, MOVED_TO, POSSIBLY_EQUIVALENT_TO, PARTIALLY_EQUIVALENT_TO,
+                            POSSIBLY_REPLACED_BY, RELEASES, REPLACED_BY, SAME_AS, SIMILAR_TO, WAS_A)
 from .fixtures import EDITION, FHIR_JSON, SCT, Json, Service, issue, parts_of, told, version
 from .release_files import Row, Rows, Snapshot, read
 
@@ -31,16 +21,9 @@ LOOKUP, VALIDATE = "CodeSystem/$lookup", "CodeSystem/$validate-code"
 ICD_10_SYSTEM = "http://hl7.org/fhir/sid/icd-10"
 LATEST = "20220731"
 EQUIVALENCES = {
-    REPLACED_BY: "equivalent",
-    SAME_AS: "equal",
-    POSSIBLY_EQUIVALENT_TO: "inexact",
-    ALTERNATIVE: "inexact",
-    MOVED_TO: "disjoint",
-    WAS_A: "wider",
-    SIMILAR_TO: "relatedto",
-    POSSIBLY_REPLACED_BY: "inexact",
-    PARTIALLY_EQUIVALENT_TO: "inexact",
-}
+    REPLACED_BY: "equivalent", SAME_AS: "equal", POSSIBLY_EQUIVALENT_TO: "inexact",
+    ALTERNATIVE: "inexact", MOVED_TO: "disjoint", WAS_A: "wider", SIMILAR_TO: "relatedto",
+    POSSIBLY_REPLACED_BY: "inexact", PARTIALLY_EQUIVALENT_TO: "inexact"}
 
 
 def snapshot(service: Service, day: str) -> Snapshot:
@@ -87,9 +70,7 @@ class TestComposed(Whole):
         codes = [one["code"] for one in said["expansion"].get("contains", [])]
         there = self.snapshot(day).concepts
         assert (codes, said["expansion"]["total"]) == (
-            sorted(wanted & there.keys(), key=int),
-            len(codes),
-        )
+            sorted(wanted & there.keys(), key=int), len(codes))
         assert said.get("url") == "urn:own"
         for code in sorted(there)[::4] + codes[:2]:
             coding = {"name": "coding", "valueCoding": {"system": SCT, "code": code}}
@@ -101,11 +82,8 @@ class TestComposed(Whole):
         files, codes = self.snapshot(day), self.codes
         limb, injury = codes["limb"], codes["injury"]
         within = files.within(limb)
-        for op, wanted in (
-            ("is-a", within),
-            ("descendent-of", within - {limb}),
-            ("generalizes", files.above[limb]),
-        ):
+        for op, wanted in (("is-a", within), ("descendent-of", within - {limb}),
+                           ("generalizes", files.above[limb])):
             self.check(wanted, day, self.define([self.part(op, "limb")]))
         in_set = {code for code in files.referred(codes["set"]) if code[-2] == "0"}
         self.check(in_set, day, self.define([self.part("in", "set")]))
@@ -113,14 +91,8 @@ class TestComposed(Whole):
         both = self.part("is-a", "injury")
         both["filter"].append({"property": "concept", "op": "in", "value": codes["set"]})
         self.check(in_set & files.within(injury), day, self.define([both]))
-        self.check(
-            files.within(injury) - within | {codes["drug"]},
-            day,
-            self.define(
-                [self.part("is-a", "injury"), drug],
-                [self.part("is-a", "limb")],
-            ),
-        )
+        self.check(files.within(injury) - within | {codes["drug"]}, day,
+                   self.define([self.part("is-a", "injury"), drug], [self.part("is-a", "limb")]))
 
     def test_lists_and_other_value_sets(self) -> None:
         codes = self.codes
@@ -188,8 +160,7 @@ class TestComposed(Whole):
             (self.define([{"system": SCT}], [self.part("is-a", "limb")]), 422),
             (self.define([self.part("is-a", "limb")], lockedDate="2020-01-01"), 422),
             ({"name": "valueSet", "resource": {"resourceType": "ValueSet"}}, 400),
-            ({"name": "valueSet", "valueString": "x"}, 400),
-        )
+            ({"name": "valueSet", "valueString": "x"}, 400))
         for part, status in cases:
             got, said = self.gateway.posted(EXPAND, part)
             assert (got, said["resourceType"]) == (status, "OperationOutcome"), part
@@ -230,19 +201,16 @@ class TestExpansions(Whole):
         url, of_old = SCT + "?fhir_vs=isa/" + limb, SCT + "|" + version("20190131")
         versioned = "%s?fhir_vs=isa/%s" % (version(LATEST), limb)
         for words, wanted in (
-            ({"url": url + "|" + version("20190131")}, old),
-            ({"url": url, "valueSetVersion": version("20190131")}, old),
-            ({"url": url, "force-system-version": of_old}, old),
-            ({"url": versioned, "force-system-version": of_old}, old),
-            ({"url": url, "check-system-version": of_old}, old),
-            ({"url": versioned, "check-system-version": SCT + "|" + version(LATEST)}, new),
-        ):
+                ({"url": url + "|" + version("20190131")}, old),
+                ({"url": url, "valueSetVersion": version("20190131")}, old),
+                ({"url": url, "force-system-version": of_old}, old),
+                ({"url": versioned, "force-system-version": of_old}, old),
+                ({"url": url, "check-system-version": of_old}, old),
+                ({"url": versioned, "check-system-version": SCT + "|" + version(LATEST)}, new)):
             assert set(self.expanded(**words)) == wanted, words
-        for words in (
-            {"url": versioned, "check-system-version": of_old},
-            {"url": url + "|" + version("20190131"), "valueSetVersion": version(LATEST)},
-            {"url": url + "|20190131"},
-        ):
+        for words in ({"url": versioned, "check-system-version": of_old},
+                      {"url": url + "|" + version("20190131"), "valueSetVersion": version(LATEST)},
+                      {"url": url + "|20190131"}):
             assert self.gateway.fhir(EXPAND, **words)[0] == 400, words
         of_member = {"url": url, "system": SCT, "code": self.codes["wrist"]}
         said = self.gateway.fhir(MEMBER, **of_member, **{"force-system-version": of_old})[1]
@@ -254,11 +222,9 @@ class TestExpansions(Whole):
 
     def test_designations_that_are_chosen(self) -> None:
         url = SCT + "?fhir_vs=isa/" + self.codes["anaemia"]
-        for token, wanted in (
-            ("urn:ietf:bcp:47|de", {"An\u00e4mie"}),
-            (SCT + "|900000000000003001", {"Anemia (disorder)"}),
-            ("urn:ietf:bcp:47|fr", set()),
-        ):
+        for token, wanted in (("urn:ietf:bcp:47|de", {"An\u00e4mie"}),
+                              (SCT + "|900000000000003001", {"Anemia (disorder)"}),
+                              ("urn:ietf:bcp:47|fr", set())):
             said = self.gateway.fhir(EXPAND, url=url, designation=token)[1]["expansion"]
             found = {one["value"] for one in said["contains"][0].get("designation", [])}
             assert found == wanted, token
@@ -284,10 +250,8 @@ class TestTranslations(Whole):
         return self.gateway.fhir(TRANSLATE, system=SCT, code=code, **words)
 
     def matches(self, said: Json) -> list[tuple[str, str, str]]:
-        return sorted(
-            (one["source"].partition("fhir_cm=")[2], one["equivalence"], one["concept"]["code"])
-            for one in parts_of(said, "match")
-        )
+        return sorted((one["source"].partition("fhir_cm=")[2], one["equivalence"],
+                       one["concept"]["code"]) for one in parts_of(said, "match"))
 
     @pytest.mark.parametrize("day", ("20170731", "20210131", LATEST))
     def test_all_associations_at_once(self, day: str) -> None:
@@ -354,21 +318,16 @@ class TestTranslations(Whole):
             for group, priority, rule, advice, target, correlation, _ in rows:
                 means = {demo.NOT_SPECIFIED: "relatedto", demo.EXACT: "equal"}[correlation]
                 concept = {"system": ICD_10_SYSTEM, "code": target} if target else None
-                wanted.append(
-                    {
-                        "equivalence": means if target else "unmatched",
-                        "concept": concept,
-                        "source": SCT + "?fhir_cm=" + demo.ICD_10,
-                        "mapGroup": int(group),
-                        "mapPriority": int(priority),
-                        "mapRule": rule,
-                        "mapAdvice": advice,
-                    }
-                )
+                wanted.append({
+                    "equivalence": means if target else "unmatched",
+                    "concept": concept,
+                    "source": SCT + "?fhir_cm=" + demo.ICD_10,
+                    "mapGroup": int(group),
+                    "mapPriority": int(priority),
+                    "mapRule": rule,
+                    "mapAdvice": advice})
             asks: tuple[dict[str, str], ...] = (
-                {"url": SCT + "?fhir_cm=" + demo.ICD_10},
-                {"targetsystem": ICD_10_SYSTEM},
-            )
+                {"url": SCT + "?fhir_cm=" + demo.ICD_10}, {"targetsystem": ICD_10_SYSTEM})
             for words in asks:
                 status, said = self.ask(name, version=version(day), **words)
                 found = [{"concept": None, **one} for one in parts_of(said, "match")]
@@ -391,12 +350,11 @@ class TestResources(Whole):
     def test_value_sets_by_address_and_id(self) -> None:
         limb, own = self.codes["limb"], self.codes["set"]
         for what, name, filters in (
-            ("fhir_vs", "sct", None),
-            ("fhir_vs=isa/" + limb, "isa-" + limb, ("is-a", limb)),
-            ("fhir_vs=refset/" + own, "refset-" + own, ("in", own)),
-            ("fhir_vs=refset/" + SAME_AS, "refset-" + SAME_AS, ("in", SAME_AS)),
-            ("fhir_vs=refset", "refset", None),
-        ):
+                ("fhir_vs", "sct", None),
+                ("fhir_vs=isa/" + limb, "isa-" + limb, ("is-a", limb)),
+                ("fhir_vs=refset/" + own, "refset-" + own, ("in", own)),
+                ("fhir_vs=refset/" + SAME_AS, "refset-" + SAME_AS, ("in", SAME_AS)),
+                ("fhir_vs=refset", "refset", None)):
             for base, day in ((SCT, ""), (version("20200131"), ".20200131")):
                 if what.endswith(SAME_AS) and day:
                     continue  # (It has members, of another day.)
@@ -442,19 +400,14 @@ class TestResources(Whole):
                 one = self.found("CodeSystem", **{"url": SCT, **words})
                 assert [each["version"] for each in one] == [version(day)]
                 assert self.gateway.fhir("CodeSystem/" + one[0]["id"])[1] == one[0]
-        for words in (
-            {"url": "http://loinc.org"},
-            {"version": version("20200101")},
-            {"url": "http://loinc.org,http://snomed.info/xsct"},
-            {"url": SCT, "system": "http://loinc.org"},
-            {"url": SCT + "|" + version(days[0]), "version": version(days[-1])},
-        ):
+        for words in ({"url": "http://loinc.org"}, {"version": version("20200101")},
+                      {"url": "http://loinc.org,http://snomed.info/xsct"},
+                      {"url": SCT, "system": "http://loinc.org"},
+                      {"url": SCT + "|" + version(days[0]), "version": version(days[-1])}):
             assert self.found("CodeSystem", **words) == []
         both = {version(days[0]), version(days[-1])}
-        for words in (
-            {"version": ",".join(both)},
-            {"url": ",".join([*(SCT + "|" + one for one in both), "http://loinc.org"])},
-        ):
+        for words in ({"version": ",".join(both)},
+                      {"url": ",".join([*(SCT + "|" + one for one in both), "http://loinc.org"])}):
             assert {one["version"] for one in self.found("CodeSystem", **words)} == both
         found = self.found("CodeSystem", url="http://snomed.info/xsct," + SCT)
         assert len(found) == len(days)
@@ -466,11 +419,9 @@ class TestResources(Whole):
     @pytest.mark.parametrize("name, day", (("sct", LATEST), ("sct.20190131", "20190131")))
     def test_operations_on_a_code_system(self, name: str, day: str) -> None:
         limb, wrist = self.codes["limb"], self.codes["wrist"]
-        for what, word, words in (
-            ("$lookup", "system", {"code": wrist}),
-            ("$validate-code", "url", {"code": wrist}),
-            ("$subsumes", "system", {"codeA": limb, "codeB": wrist}),
-        ):
+        for what, word, words in (("$lookup", "system", {"code": wrist}),
+                                  ("$validate-code", "url", {"code": wrist}),
+                                  ("$subsumes", "system", {"codeA": limb, "codeB": wrist})):
             on_it = self.gateway.fhir("CodeSystem/%s/%s" % (name, what), **words)
             beside = {word: SCT, **words, **({} if day == LATEST else {"version": version(day)})}
             assert on_it[0] == 200
@@ -499,15 +450,11 @@ class TestBatches(Whole):
         return {"request": {"method": "GET", "url": url}}
 
     def test_answers_are_those_of_each_request(self) -> None:
-        urls = [
-            "%s?system=%s&code=%s" % (LOOKUP, SCT, self.codes["wrist"]),
-            "%s?url=%s&code=%s" % (VALIDATE, SCT, "999"),
-            "CodeSystem/sct/$subsumes?codeA=%s&codeB=%s" % (("138875005",) * 2),
-            "ValueSet?url=%s?fhir_vs" % SCT,
-            "%s?system=%s&code=999" % (LOOKUP, SCT),
-            "%s?system=%s&code=138875005&x=y" % (LOOKUP, SCT),
-            "Patient/1",
-        ]
+        urls = ["%s?system=%s&code=%s" % (LOOKUP, SCT, self.codes["wrist"]),
+                "%s?url=%s&code=%s" % (VALIDATE, SCT, "999"),
+                "CodeSystem/sct/$subsumes?codeA=%s&codeB=%s" % (("138875005",) * 2),
+                "ValueSet?url=%s?fhir_vs" % SCT, "%s?system=%s&code=999" % (LOOKUP, SCT),
+                "%s?system=%s&code=138875005&x=y" % (LOOKUP, SCT), "Patient/1"]
         status, said = self.batch(*map(self.get, urls))
         assert (status, said["type"], len(said["entry"])) == (200, "batch-response", len(urls))
         for url, entry in zip(urls, said["entry"]):
@@ -543,19 +490,15 @@ class TestBatches(Whole):
         status, said = self.batch(*[expand] * limits.BATCH_ENTRIES)
         assert (status, issue(said)) == (422, "too-costly")
 
-    @pytest.mark.parametrize(
-        "body, status",
-        (
-            (b"", 400),
-            (b"[]", 400),
-            (b'{"resourceType":"Parameters"}', 400),
-            (b'{"resourceType":"Bundle","type":"transaction"}', 400),
-            (b'{"resourceType":"Bundle","type":"batch","entry":7}', 400),
-            (b'{"resourceType":"Bundle","type":"batch","entry":[7]}', 400),
-            (b'{"resourceType":"Bundle","type":"batch","entry":[{"request":{}}]}', 400),
-            (b" " * (limits.FHIR_BODY_BYTES + 1), 413),
-        ),
-    )
+    @pytest.mark.parametrize("body, status", (
+        (b"", 400),
+        (b"[]", 400),
+        (b'{"resourceType":"Parameters"}', 400),
+        (b'{"resourceType":"Bundle","type":"transaction"}', 400),
+        (b'{"resourceType":"Bundle","type":"batch","entry":7}', 400),
+        (b'{"resourceType":"Bundle","type":"batch","entry":[7]}', 400),
+        (b'{"resourceType":"Bundle","type":"batch","entry":[{"request":{}}]}', 400),
+        (b" " * (limits.FHIR_BODY_BYTES + 1), 413)))
     def test_what_is_none(self, body: bytes, status: int) -> None:
         answer = self.gateway.send("POST", "/fhir", body, {"Content-Type": FHIR_JSON})
         assert answer.status == status

@@ -29,14 +29,8 @@ class TestDelivery(Asked):
         assert len(plain.body) > limits.PACKED_BYTES
         assert "content-encoding" not in plain.headers
         for takes, is_packed in (
-            ("gzip", True),
-            ("br, gzip;q=0.5", True),
-            ("*", True),
-            ("gzip;q=0", False),
-            ("gzip;q=0.000", False),
-            ("br", False),
-            ("xgzip", False),
-        ):
+                ("gzip", True), ("br, gzip;q=0.5", True), ("*", True), ("gzip;q=0", False),
+                ("gzip;q=0.000", False), ("br", False), ("xgzip", False)):
             answer = self.gateway.send("GET", METADATA, headers={"Accept-Encoding": takes})
             packed = answer.headers.get("content-encoding") == "gzip"
             assert packed == is_packed, takes
@@ -48,12 +42,10 @@ class TestDelivery(Asked):
     def test_kept(self) -> None:
         """An answer has the name of its pin and address. Below a pin it holds for good."""
         tags = set()
-        for target, lasting in (
-            (METADATA, "private, no-cache"),
-            (METADATA + "?mode=terminology", "private, no-cache"),
-            ("/pin/1" + METADATA, "private, max-age=31536000, immutable"),
-            ("/pin/2" + METADATA, "private, max-age=31536000, immutable"),
-        ):
+        for target, lasting in ((METADATA, "private, no-cache"),
+                                (METADATA + "?mode=terminology", "private, no-cache"),
+                                ("/pin/1" + METADATA, "private, max-age=31536000, immutable"),
+                                ("/pin/2" + METADATA, "private, max-age=31536000, immutable")):
             first = self.gateway.send("GET", target)
             assert (first.status, first.headers["cache-control"]) == (200, lasting)
             tag = first.headers["etag"]

@@ -59,11 +59,8 @@ TABLE = (
     ("^ 900000000000526001", LATEST, "wrist lost"),
     ("^ [targetComponentId] 900000000000527005", LATEST, "radius2"),
     ("^ [valueId] 900000000000489007", BEFORE, ""),
-    (
-        "^ [valueId] $indicators {{ M referencedComponentId = << $radius }}",
-        LATEST,
-        "ambiguous duplicate",
-    ),
+    ("^ [valueId] $indicators {{ M referencedComponentId = << $radius }}", LATEST,
+     "ambiguous duplicate"),
     ("^ $set {{ M active = 0 }}", BEFORE, "wrist"),
     ("^ $left {{ M active = false }}", LATEST, "drug"),
     ("^ $set {{ M effectiveTime >= \"20200101\" }}", LATEST, "wrist radius absent"),
@@ -125,8 +122,7 @@ TABLE = (
     ("* {{ D type = def }}", LATEST, ""),
     ("$wrist {{ D type = def, dialectId = 900000000000509007 (prefer) }}", LATEST, "wrist"),
     ("$wrist {{ D active = 0, language = en }}", LATEST, "wrist"),
-    ("$limb {{ D id = $limb-name }}", LATEST, "limb"),
-)
+    ("$limb {{ D id = $limb-name }}", LATEST, "limb"))
 # What isn't an expression, and at which letter it ends to be one.
 MISSPELT = (
     ("", 1),
@@ -158,8 +154,7 @@ MISSPELT = (
     ("* {{ + HISTORY-SOME }}", 8),
     ("* {{ + HISTORY-MIN (*) }}", 8),
     ("(" * (limits.EXPRESSION_DEPTH + 1), limits.EXPRESSION_DEPTH + 1),
-    ("descendantOf $limb", 1),
-)
+    ("descendantOf $limb", 1))
 UNANSWERED = (
     ("* {{ term = \"wrist\" }}", "term filters aren't answered yet"),
     ("* {{ D language = en, term = wild:\"w*\" }}", "term filters aren't answered yet"),
@@ -170,8 +165,7 @@ UNANSWERED = (
     ("^ $ctv3 {{ M mapTraget = \"X\" }}", "called mapTraget"),
     ("^ [mapTarget] 900000000000527005", "called mapTarget"),
     ("^ $never", "no members of the reference set"),
-    ("* : $site = ^ $never", "no members of the reference set"),
-)
+    ("* : $site = ^ $never", "no members of the reference set"))
 # Those of the specification, as it prints them.
 EXAMPLES = """
 404684003 |Clinical finding|
@@ -252,8 +246,7 @@ DEEP = (
     ("^ (* MINUS (", "*", "))", 30),
     ("* : * = (* : { * = * } , * = (", "*", "))", 30),
     ("^ (* : * = (* . (^ * {{ M moduleId = (", "*", ") }})))", 10),
-    ("(* {{ + HISTORY (", "*", ") }})", 15),
-)
+    ("(* {{ + HISTORY (", "*", ") }})", 15))
 MANGLED = 1_500
 PIECES = ("", " ", "(", ")", "{", "}", "{{", "}}", "[", "|", '"', "\\", "#", "*", "<", "!", "^", ":",
           ",", ".", "R ", "AND ", "or ", "/*", "0", "73211009", "a", "\u00df", "\u0663", "\n", "\0")
@@ -309,9 +302,8 @@ class TestExpressions(Expressed):
             assert is_in == (code in known), (code, said)
         assert self.expanded(expression, date=date) == wanted
 
-    @pytest.mark.parametrize(
-        "pin, names", ((1, "limb wrist"), (2, "limb radius carpal"), (3, BELOW))
-    )
+    @pytest.mark.parametrize("pin, names", (
+        (1, "limb wrist"), (2, "limb radius carpal"), (3, BELOW)))
     def test_at_a_pin(self, pin: int, names: str) -> None:
         expression = "<< $limb" if pin < 3 else "<< $injury"
         assert self.expanded(expression, "/pin/%d/fhir/" % pin) == self.named(names)
@@ -364,9 +356,8 @@ class TestExpressions(Expressed):
     def test_patterns(self) -> None:
         """Also those by which a search that goes back would take years."""
         for pattern, is_fit in (
-            ("*", True), ("a*", True), ("*a*a*b", True), ("*a" * 500 + "*c*", False), ("a", False),
-            ("aa*" + "a" * 5_000 + "b", False), ("*" * 2_000 + "b", True),
-        ):
+                ("*", True), ("a*", True), ("*a*a*b", True), ("*a" * 500 + "*c*", False),
+                ("a", False), ("aa*" + "a" * 5_000 + "b", False), ("*" * 2_000 + "b", True)):
             assert fits_pattern(pattern, "a" * 5_000 + "B") == is_fit, pattern[:20]
         assert not fits_pattern("ab*ba", "aba")
 
@@ -420,8 +411,7 @@ class TestValueSets(Expressed):
             ([("concept", "descendent-of", injury), ("constraint", "=", ">> " + codes["carpal"])],
              "limb carpal"),
             ([below, ("concept", "in", codes["set"])], "limb radius"),
-            ([below, ("concept", "generalizes", codes["limb"])], "injury limb"),
-        )
+            ([below, ("concept", "generalizes", codes["limb"])], "injury limb"))
         for filters, names in cases:
             status, said = self.gateway.posted(EXPAND, self.define(*filters), day)
             assert (status, self.codes_in(said)) == (200, self.named(names)), filters

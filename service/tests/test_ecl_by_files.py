@@ -30,11 +30,8 @@ OF_ONE_STORE = 1_000
 ASKED = (*DAYS, "20200801", "20210101", "20211231", "20991231")
 # So many are asked beside each other.
 AT_A_TIME = 25
-SIZES = {
-    "ASKED_UPWARDS": (0, 3, 40),
-    "ASKED_ONE_BY_ONE": (0, 10, 1000),
-    "QUESTION_ROWS": (20, 100, 1000, 1000),
-}
+SIZES = {"ASKED_UPWARDS": (0, 3, 40), "ASKED_ONE_BY_ONE": (0, 10, 1000),
+         "QUESTION_ROWS": (20, 100, 1000, 1000)}
 NO_FIELD = "no reference set there has a field"
 # How many of each have to be among them.
 AT_LEAST = {"some": 1500, "none": 450}
@@ -52,9 +49,7 @@ class Drawn:
         self.run("init", "--store", store)
         for release in RELEASES:
             self.run("import", "--quiet", "--store", store, str(root / release))
-        self.hub = begun_hub(
-            hub, self.program, store, str(root), "--questions", self.questions
-        )
+        self.hub = begun_hub(hub, self.program, store, str(root), "--questions", self.questions)
         self.versions = [versions_of(root / name for name in RELEASES[:pin]) for pin in (1, 2)]
         self.by_files: dict[tuple[int, str], ByFiles] = {}
 
@@ -83,9 +78,8 @@ def test_answers_are_those_of_the_files(monkeypatch: pytest.MonkeyPatch) -> None
     assert all(counts[what] >= least for what, least in AT_LEAST.items()), counts
 
 
-async def compare(
-    drawn: Drawn, chance: random.Random, monkeypatch: pytest.MonkeyPatch, counts: Counter[str]
-) -> None:
+async def compare(drawn: Drawn, chance: random.Random, monkeypatch: pytest.MonkeyPatch,
+                  counts: Counter[str]) -> None:
     """Draws expressions and asks them, some at a time, each time with other limits of when what is
     asked in which way."""
     pool, draw = Pool(drawn.questions), Draw(chance.getrandbits(32), drawn.maker)
@@ -93,20 +87,13 @@ async def compare(
         for name, sizes in SIZES.items():
             monkeypatch.setattr(limits, name, chance.choice(sizes))
         await asyncio.gather(
-            *(
-                one_compared(
-                    drawn, pool, draw.expression(DEPTH), chance.choice(ASKED),
-                    chance.choice([1, 2]), frozenset(chance.sample(drawn.maker.concepts, 2)), counts
-                )
-                for _ in range(AT_A_TIME)
-            )
-        )
+            *(one_compared(drawn, pool, draw.expression(DEPTH), chance.choice(ASKED),
+                           chance.choice([1, 2]), frozenset(chance.sample(drawn.maker.concepts, 2)),
+                           counts) for _ in range(AT_A_TIME)))
 
 
-async def one_compared(
-    drawn: Drawn, pool: Pool, tree: s.Expression, day: str, pin: int, some: s.Ids,
-    counts: Counter[str],
-) -> None:
+async def one_compared(drawn: Drawn, pool: Pool, tree: s.Expression, day: str, pin: int,
+                       some: s.Ids, counts: Counter[str]) -> None:
     text = spelled(tree)
     read = parse(text)
     assert read == tree, text
@@ -125,9 +112,8 @@ async def one_compared(
         counts["some" if wanted else "none"] += 1
 
 
-async def answered(
-    view: View, day: str, expression: s.Expression, among: s.Ids | None
-) -> s.Ids | None:
+async def answered(view: View, day: str, expression: s.Expression,
+                   among: s.Ids | None) -> s.Ids | None:
     """What the gateway says, or None where it refuses a column."""
     try:
         return await Evaluation(Terminology(view, day)).meant(expression, among)

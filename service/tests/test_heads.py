@@ -19,36 +19,11 @@ SEEDS = (
     b"POST / HTTP/1.1\r\nHost: a\r\nTransfer-Encoding: chunked\r\n\r\n",
     b"GET / HTTP/1.1\r\nHost: a\r\nContent-Length: 3\r\nExpect: 100-continue\r\nX: y\r\n\r\n",
 )
-PIECES = (
-    b"\r\n",
-    b"\n",
-    b"\r",
-    b" ",
-    b"\t",
-    b":",
-    b"\x00",
-    b"\x0b",
-    b"\x85",
-    b"Content-Length: 4\r\n",
-    b"content-length:5\r\n",
-    b"Content-Length: 4, 4\r\n",
-    b"Transfer-Encoding: chunked\r\n",
-    b"Transfer-Encoding: identity\r\n",
-    b"Host: b\r\n",
-    b" folded\r\n",
-    b"HTTP/1.1",
-    b"0",
-    b"-",
-    b"+",
-    b"\xc3\xa4",
-    b",",
-    b"\x7f",
-    b"Connection: close\r\n",
-    b"Connection: keep-alive\r\n",
-    b"/",
-    b"http://b/",
-    b"_",
-)
+PIECES = (b"\r\n", b"\n", b"\r", b" ", b"\t", b":", b"\x00", b"\x0b", b"\x85",
+          b"Content-Length: 4\r\n", b"content-length:5\r\n", b"Content-Length: 4, 4\r\n",
+          b"Transfer-Encoding: chunked\r\n", b"Transfer-Encoding: identity\r\n", b"Host: b\r\n",
+          b" folded\r\n", b"HTTP/1.1", b"0", b"-", b"+", b"\xc3\xa4", b",", b"\x7f",
+          b"Connection: close\r\n", b"Connection: keep-alive\r\n", b"/", b"http://b/", b"_")
 END_OF_HEAD = b"\r\n\r\n"
 
 
@@ -122,10 +97,7 @@ class TestHeads:
             return
         request, stays = found
         assert (request.method, request.target, stays) == (
-            wanted.method,
-            wanted.target,
-            wanted.stays,
-        ), head
+            wanted.method, wanted.target, wanted.stays), head
         assert len(request.body) == max(wanted.length, 0), head
         headers = {name: ", ".join(values) for name, values in wanted.headers.items()}
         if "transfer-encoding" in headers:  # h11 writes it in small letters.

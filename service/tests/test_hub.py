@@ -57,10 +57,7 @@ class TestHub(Asked):
         self.service.stop_hub()
         answer = self.gateway.send("GET", "/fhir/metadata")
         assert (answer.status, answer.headers["retry-after"], issue(answer.json())) == (
-            503,
-            "5",
-            "transient",
-        )
+            503, "5", "transient")
         assert self.service.folder.name not in answer.text
         assert self.gateway.send("GET", "/health").status == 503
         self.service.start_hub()
@@ -89,10 +86,8 @@ class TestHub(Asked):
         self.another_store("d2")
         assert self.gateway.fhir(LOOKUP, "/pin/1/fhir/", **words)[0] == 404
         assert self.gateway.fhir("ValueSet/$expand", url=top)[0] == 404
-        assert (
-            self.gateway.send("GET", "/fhir/metadata").headers["x-sctd-receipt"]
-            == "RECEIPT 1: OK 1 18 20210131"
-        )
+        assert (self.gateway.send("GET", "/fhir/metadata").headers[
+                    "x-sctd-receipt"] == "RECEIPT 1: OK 1 18 20210131")
         self.another_store()
         assert self.gateway.fhir(LOOKUP, "/pin/1/fhir/", **words)[0] == 503
         assert self.gateway.fhir(LOOKUP, **self.wrist)[0] == 404
@@ -102,9 +97,7 @@ class TestHub(Asked):
     def test_4_subtree_of_another_store(self) -> None:
         url = "%s?fhir_vs=isa/%s" % (version("20210131"), self.service.codes["limb"])
         for releases, names in (
-            (("d1", "d2"), ("limb", "radius", "carpal")),
-            (("d1", "d3"), ("limb", "wrist")),
-        ):
+                (("d1", "d2"), ("limb", "radius", "carpal")), (("d1", "d3"), ("limb", "wrist"))):
             self.another_store(*releases)
             said = self.gateway.fhir("ValueSet/$expand", "/pin/2/fhir/", url=url)[1]["expansion"]
             found = {one["code"] for one in said["contains"]}
@@ -221,25 +214,16 @@ class TestReaders:
 
 class TestStart:
     def start(self, *words: str) -> "subprocess.CompletedProcess[str]":
-        return subprocess.run(
-            [sys.executable, "-m", "sctd_service.gateway", *words],
-            cwd=SERVICE,
-            text=True,
-            capture_output=True,
-            timeout=SECONDS,
-        )
+        return subprocess.run([sys.executable, "-m", "sctd_service.gateway", *words], cwd=SERVICE,
+                              text=True, capture_output=True, timeout=SECONDS)
 
-    @pytest.mark.parametrize(
-        "words",
-        (
-            ("--socket", "/nowhere"),
-            ("--edition", "900000000000207008"),
-            ("--socket", "/nowhere", "--edition", "900000000000207009"),
-            ("--socket", "/nowhere", "--edition", "900000000000207008", "--listen", "x"),
-            ("--socket", "/nowhere", "--edition", "900000000000207008", "--listen", "8080"),
-            ("--socket", "/nowhere", "--edition", "900000000000207008", "--listen", ":8080"),
-        ),
-    )
+    @pytest.mark.parametrize("words", (
+        ("--socket", "/nowhere"),
+        ("--edition", "900000000000207008"),
+        ("--socket", "/nowhere", "--edition", "900000000000207009"),
+        ("--socket", "/nowhere", "--edition", "900000000000207008", "--listen", "x"),
+        ("--socket", "/nowhere", "--edition", "900000000000207008", "--listen", "8080"),
+        ("--socket", "/nowhere", "--edition", "900000000000207008", "--listen", ":8080")))
     def test_words_that_are_refused(self, words: tuple[str, ...]) -> None:
         done = self.start(*words)
         assert (done.returncode, done.stdout) == (2, ""), words
@@ -248,18 +232,11 @@ class TestStart:
         whole = ("--socket", "/nowhere", "--edition", "900000000000207008")
         nine = ",".join(sorted(DIALECTS.values())[:9])
         twice = ("--map", "900000000000497000=urn:a", "--map", "900000000000497000=urn:b")
-        for words in (
-            ("--languages", ""),
-            ("--languages", "en-US"),
-            ("--languages", "900000000000509008"),
-            ("--languages", "900000000000509007,"),
-            ("--languages", nine),
-            ("--map", "900000000000497000"),
-            ("--map", "900000000000497001=urn:a"),
-            ("--map", "900000000000497000=ctv3"),
-            ("--map", "900000000000497000=urn:a b"),
-            twice,
-        ):
+        for words in (("--languages", ""), ("--languages", "en-US"),
+                      ("--languages", "900000000000509008"), ("--languages", "900000000000509007,"),
+                      ("--languages", nine), ("--map", "900000000000497000"),
+                      ("--map", "900000000000497001=urn:a"), ("--map", "900000000000497000=ctv3"),
+                      ("--map", "900000000000497000=urn:a b"), twice):
             done = self.start(*whole, *words)
             assert (done.returncode, done.stdout) == (2, ""), words
 
@@ -269,8 +246,7 @@ class TestStart:
             with tempfile.TemporaryDirectory() as folder:
                 listen = folder + "/socket"
                 done = self.start(
-                    "--socket", service.questions, "--edition", module, "--listen", listen
-                )
+                    "--socket", service.questions, "--edition", module, "--listen", listen)
                 assert (done.returncode, done.stdout) == (1, "")
                 assert "the store has no concept of the module %s: " % module in done.stderr
                 assert not os.path.exists(listen)
@@ -296,26 +272,21 @@ class TestStart:
             place = "127.0.0.1:%d" % taken.getsockname()[1]
             for listen in (place, "/dev/null", "/nowhere/socket"):
                 done = self.start(
-                    "--socket", "/nowhere", "--edition", "900000000000207008", "--listen", listen
-                )
+                    "--socket", "/nowhere", "--edition", "900000000000207008", "--listen", listen)
                 assert (done.returncode, done.stdout) == (1, ""), listen
                 assert "sctd-gateway: %s: " % listen in done.stderr
         assert os.path.exists("/dev/null")
 
     def test_socket_of_a_program_that_takes_no_more_connections(self) -> None:
         """It stays, and isn't waited for."""
-        with (
-            tempfile.TemporaryDirectory() as folder,
-            socket.socket(socket.AF_UNIX) as taken,
-            socket.socket(socket.AF_UNIX) as first,
-        ):
+        with (tempfile.TemporaryDirectory() as folder, socket.socket(socket.AF_UNIX) as taken,
+              socket.socket(socket.AF_UNIX) as first):
             listen = folder + "/socket"
             taken.bind(listen)
             taken.listen(0)
             first.connect(listen)
             done = self.start(
-                "--socket", "/nowhere", "--edition", "900000000000207008", "--listen", listen
-            )
+                "--socket", "/nowhere", "--edition", "900000000000207008", "--listen", listen)
             assert (done.returncode, done.stdout) == (1, "")
             assert "another program listens" in done.stderr
             assert os.path.exists(listen)

@@ -29,10 +29,7 @@ def large_service(own_service: Service) -> Service:
     # Other identifiers than those of the releases before.
     maker.items = {kind: 10_000_000 for kind in maker.items}
     for name, count, letter in (
-        ("large", MANY, "x"),
-        ("too large", TOO_MANY, "x"),
-        ("quotes", REMEMBERED, '"'),
-    ):
+            ("large", MANY, "x"), ("too large", TOO_MANY, "x"), ("quotes", REMEMBERED, '"')):
         code = maker.concept(name, DAY, "Concept with long terms")
         for number in range(count):
             maker.term(code, DAY, "%d %s" % (number, letter * TERM_LETTERS))
@@ -48,12 +45,7 @@ def large_service(own_service: Service) -> Service:
     service.codes = maker.codes
     service.stop_hub()
     service.run(
-        "import",
-        "--quiet",
-        "--store",
-        service.store,
-        str(service.releases / "large" / "d3"),
-    )
+        "import", "--quiet", "--store", service.store, str(service.releases / "large" / "d3"))
     service.start_hub()
     return service
 
@@ -62,15 +54,15 @@ class TestLargeAnswers(Asked):
     of = "large_service"
 
     def lookup(self, name: str) -> tuple[int, dict[str, Any]]:
-        return self.service.gateway.fhir("CodeSystem/$lookup", system=SCT, code=self.codes[name])
+        return self.gateway.fhir("CodeSystem/$lookup", system=SCT, code=self.codes[name])
 
     def expand(self, name: str, **words: Any) -> tuple[int, dict[str, Any]]:
         url = "%s?fhir_vs%s" % (SCT, "=isa/" + self.codes[name] if name else "")
-        return self.service.gateway.fhir("ValueSet/$expand", url=url, **words)
+        return self.gateway.fhir("ValueSet/$expand", url=url, **words)
 
     def is_throttled(self, target: str) -> bool:
         """Whether an answer is refused since too many wait to be taken."""
-        answer = self.service.gateway.send("GET", target)
+        answer = self.gateway.send("GET", target)
         return answer.status == 503 and issue(answer.json()) == "throttled"
 
     def test_answer_above_the_limit(self) -> None:
@@ -78,7 +70,7 @@ class TestLargeAnswers(Asked):
         status, said = self.lookup("too large")
         assert (status, issue(said)) == (422, "too-costly")
         target = "/fhir/CodeSystem/$lookup?system=%s&code=%s" % (SCT, self.codes["too large"])
-        assert self.service.gateway.send("GET", target).headers.get("x-sctd-pin") == "4"
+        assert self.gateway.send("GET", target).headers.get("x-sctd-pin") == "4"
 
     def test_more_concepts_than_a_page(self) -> None:
         status, said = self.expand("page")
@@ -106,7 +98,7 @@ class TestLargeAnswers(Asked):
         """Many answers that wait to be taken are refused from some number on, small ones never.
         Their replies are remembered: where `sctd` is slow, they would be refused for another
         reason."""
-        gateway = self.service.gateway
+        gateway = self.gateway
         target = "/fhir/CodeSystem/$lookup?system=%s&code=%s" % (SCT, self.codes["quotes"])
         places = limits.UNTAKEN_BYTES // len(gateway.send("GET", target).body)
         clients, began = [], time.monotonic()

@@ -13,39 +13,15 @@ from .fixtures import until
 LATE_SECONDS = 6.0
 GET = b"GET /health HTTP/1.1\r\nHost: x\r\n"
 LISTED = {
-    "HEAD_BYTES": 16 << 10,
-    "BODY_BYTES": 64 << 10,
-    "ANSWER_BYTES": 4 << 20,
-    "HEAD_SECONDS": 10,
-    "BODY_SECONDS": 10,
-    "TAKE_SECONDS": 20,
-    "IDLE_SECONDS": 60,
-    "SCTD_SECONDS": 30,
-    "CONNECTIONS": 512,
-    "WALKS": 3,
-    "PAGE_CONCEPTS": 1000,
-    "WALK_CONCEPTS": 20_000,
-    "FILTER_TERMS": 2_000,
-    "LANGUAGES": 8,
-    "REFSET_MEMBERS": 200_000,
-    "REFSET_CHOICE": 4_000,
-    "REFSET_CONCEPTS": 200_000,
-    "EXPRESSION_LETTERS": 20_000,
-    "EXPRESSION_DEPTH": 60,
-    "EXPRESSION_LINES": 20_000,
-    "TOLD_REFSETS": 100,
-    "TOLD_MEMBERS": 20,
-    "TOLD_CONCEPTS": 50,
-    "DELTA_ROWS": 200_000,
-    "CHANGED_CONCEPTS": 500,
-    "CHANGES_QUESTIONS": 20_000,
-    "RECORDS": 1_000,
-    "RECORD_CHARACTERS": 5_000,
-    "RECORDS_BYTES": 256 << 10,
-    "RECORDS_BODY_BYTES": 1 << 20,
-    "FHIR_BODY_BYTES": 256 << 10,
-    "RECORDS_QUESTIONS": 20_000,
-}
+    "HEAD_BYTES": 16 << 10, "BODY_BYTES": 64 << 10, "ANSWER_BYTES": 4 << 20, "HEAD_SECONDS": 10,
+    "BODY_SECONDS": 10, "TAKE_SECONDS": 20, "IDLE_SECONDS": 60, "SCTD_SECONDS": 30,
+    "CONNECTIONS": 512, "WALKS": 3, "PAGE_CONCEPTS": 1000, "WALK_CONCEPTS": 20_000,
+    "FILTER_TERMS": 2_000, "LANGUAGES": 8, "REFSET_MEMBERS": 200_000, "REFSET_CHOICE": 4_000,
+    "REFSET_CONCEPTS": 200_000, "EXPRESSION_LETTERS": 20_000, "EXPRESSION_DEPTH": 60,
+    "EXPRESSION_LINES": 20_000, "TOLD_REFSETS": 100, "TOLD_MEMBERS": 20, "TOLD_CONCEPTS": 50,
+    "DELTA_ROWS": 200_000, "CHANGED_CONCEPTS": 500, "CHANGES_QUESTIONS": 20_000, "RECORDS": 1_000,
+    "RECORD_CHARACTERS": 5_000, "RECORDS_BYTES": 256 << 10, "RECORDS_BODY_BYTES": 1 << 20,
+    "FHIR_BODY_BYTES": 256 << 10, "RECORDS_QUESTIONS": 20_000}
 
 
 class TestLimits(Asked):
@@ -58,16 +34,11 @@ class TestLimits(Asked):
         room = limits.HEAD_BYTES - len(GET) - len(b"A: \r\nConnection: close\r\n\r\n")
         for more, status in ((0, 200), (1, 431)):
             got = gateway.raw(
-                GET + b"A: " + b"b" * (room + more) + b"\r\nConnection: close\r\n\r\n"
-            )
+                GET + b"A: " + b"b" * (room + more) + b"\r\nConnection: close\r\n\r\n")
             assert got.split(b" ")[1] == b"%d" % status
         for length, status in ((limits.FHIR_BODY_BYTES, 400), (limits.FHIR_BODY_BYTES + 1, 413)):
-            answer = gateway.send(
-                "POST",
-                "/fhir/CodeSystem/$lookup",
-                b" " * length,
-                {"Content-Type": "application/json"},
-            )
+            answer = gateway.send("POST", "/fhir/CodeSystem/$lookup", b" " * length,
+                                  {"Content-Type": "application/json"})
             assert answer.status == status
 
     def test_answers_that_are_not_taken(self) -> None:

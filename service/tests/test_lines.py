@@ -15,23 +15,13 @@ CASE_SENSITIVE = "900000000000017005"
 class TestLines:
     def test_what_cannot_be_sent(self) -> None:
         assert encoded(["PIN", "SEARCH 20200101 - 5 a b"]) == b"PIN\nSEARCH 20200101 - 5 a b\n"
-        for line in (
-            "",
-            "a\nb",
-            "a\rb",
-            "a\n",
-            "\0",
-            "a\x85b",
-            "a\u2028b",
-            "x" * 5_000,
-            "\u4e2d" * 2_000,
-        ):
+        for line in ("", "a\nb", "a\rb", "a\n", "\0", "a\x85b", "a\u2028b", "x" * 5_000,
+                     "\u4e2d" * 2_000):
             with pytest.raises(ValueError):
                 encoded(["PIN", line])
 
-    @pytest.mark.parametrize(
-        "line", (b"", b"row 1", b"ROWS 1", b"OKAY", b"ERRO 1", b"HTTP/1.1 200 OK")
-    )
+    @pytest.mark.parametrize("line", (
+        b"", b"row 1", b"ROWS 1", b"OKAY", b"ERRO 1", b"HTTP/1.1 200 OK"))
     def test_what_is_no_line_of_a_reply(self, line: bytes) -> None:
         with pytest.raises(NotAReply):
             list(Replies().feed(b"ROW a\n" + line + b"\n"))
@@ -49,10 +39,7 @@ class TestLines:
 
     def test_refusals(self) -> None:
         for line, number in (
-            ("ERR 43 Arguments", 43),
-            ("ERR hub NotAQuestion", None),
-            ("ERR ", None),
-        ):
+                ("ERR 43 Arguments", 43), ("ERR hub NotAQuestion", None), ("ERR ", None)):
             found = refusal(line)
             assert isinstance(found, HubRefused)
             assert found.number == number
@@ -60,17 +47,13 @@ class TestLines:
 
 
 class TestDisplays:
-    @pytest.mark.parametrize(
-        "case, text, valid",
-        (
-            (CASE_SENSITIVE, "pH of Urine", True),
-            (CASE_SENSITIVE, "PH of Urine", False),
-            (INITIAL_CASE_INSENSITIVE, "PH of Urine", True),
-            (INITIAL_CASE_INSENSITIVE, "pH of urine", False),
-            (CASE_INSENSITIVE, "PH OF URINE", True),
-            (CASE_INSENSITIVE, "pH of urin", False),
-        ),
-    )
+    @pytest.mark.parametrize("case, text, valid", (
+        (CASE_SENSITIVE, "pH of Urine", True),
+        (CASE_SENSITIVE, "PH of Urine", False),
+        (INITIAL_CASE_INSENSITIVE, "PH of Urine", True),
+        (INITIAL_CASE_INSENSITIVE, "pH of urine", False),
+        (CASE_INSENSITIVE, "PH OF URINE", True),
+        (CASE_INSENSITIVE, "pH of urin", False)))
     def test_case_counts_as_the_description_says(self, case: str, text: str, valid: bool) -> None:
         row = Description("1", "20200101", "1", "2", "3", "en", "4", "pH of Urine", case)
         assert is_display(text, [row]) == valid, (case, text)

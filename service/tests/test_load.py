@@ -21,17 +21,14 @@ class TestLoad(Asked):
     asked = 0
 
     def test_many_clients(self) -> None:
-        names = {
-            "20180101": "Fracture of wrist (disorder)",
-            "20220731": "Fracture of wrist joint region (disorder)",
-        }
+        names = {"20180101": "Fracture of wrist (disorder)",
+                 "20220731": "Fracture of wrist joint region (disorder)"}
 
         def ask(number: int) -> Json | None:
             day = ("20180101", "20220731")[number % 2]
             for _ in range(5):
-                status, said = self.gateway.fhir(
-                    "CodeSystem/$lookup", system=SCT, code=self.codes["wrist"], version=version(day)
-                )
+                status, said = self.gateway.fhir("CodeSystem/$lookup", system=SCT,
+                                                 code=self.codes["wrist"], version=version(day))
                 if (status, told(said, "display")) != (200, [names[day]]):
                     return {"status": status, "said": said}
             return {}

@@ -7,17 +7,7 @@ import pytest
 
 from .asked import Asked
 from .fixtures import (
-    EDITION,
-    SCT,
-    Json,
-    issue,
-    parts_of,
-    properties,
-    told,
-    value,
-    version,
-    with_hyphens,
-)
+    EDITION, SCT, Json, issue, parts_of, properties, told, value, version, with_hyphens)
 
 LOOKUP = "CodeSystem/$lookup"
 # The version of the release in force at the beginning of 2018, whose rows are of some days before.
@@ -27,20 +17,13 @@ IN_FORCE = [version("20170731")]
 # Days, and of each the greatest one up to it that a row of the releases has.
 ASKED = ("20150131", "20170730", "20180710", "20180720", "20200130", "20210130", "20220731")
 RELEASES_IN_FORCE = (
-    "20150131",
-    "20150131",
-    "20180705",
-    "20180720",
-    "20190131",
-    "20200731",
-    "20220731",
-)
+    "20150131", "20150131", "20180705", "20180720", "20190131", "20200731", "20220731")
 
 
 class TestLookup(Asked):
     def ask(self, code: str, **words: Any) -> tuple[int, Json]:
         code = self.codes.get(code, code)
-        return self.service.gateway.fhir(LOOKUP, system=SCT, code=code, **words)
+        return self.gateway.fhir(LOOKUP, system=SCT, code=code, **words)
 
     def test_then(self) -> None:
         status, said = self.ask("wrist", version=version("20180101"))
@@ -62,15 +45,9 @@ class TestLookup(Asked):
     def test_day_before_and_day_of(self, day: str, status: bool) -> None:
         assert properties(self.ask("wrist", version=version(day))[1])["inactive"] == [status]
 
-    @pytest.mark.parametrize(
-        "date",
-        (
-            "2018-01-01",
-            "2018-01-01T23:59:00+01:00",
-            "2018-01-01T00:00:00.5Z",
-            "2018-01-01T23:59:60-14:00",
-        ),
-    )
+    @pytest.mark.parametrize("date", (
+        "2018-01-01", "2018-01-01T23:59:00+01:00", "2018-01-01T00:00:00.5Z",
+        "2018-01-01T23:59:60-14:00"))
     def test_date_of_a_record(self, date: str) -> None:
         said = self.ask("wrist", date=date)[1]
         assert (told(said, "version"), told(said, "sctd-date")) == (IN_FORCE, ["2018-01-01"]), date
@@ -93,17 +70,16 @@ class TestLookup(Asked):
         """Nothing is known of them, whatever is asked."""
         code = self.codes["root"]
         both = {"system": SCT, "codeA": code, "codeB": code}
-        for path, words in (
-            (LOOKUP, {"system": SCT, "code": code, "version": version(day)}),
-            (LOOKUP, {"system": SCT, "code": code, "date": with_hyphens(day)}),
-            ("CodeSystem/$validate-code", {"url": SCT, "code": code, "date": with_hyphens(day)}),
-            ("CodeSystem/$subsumes", {**both, "version": version(day)}),
-            ("ValueSet/$expand", {"url": version(day) + "?fhir_vs"}),
-            ("ConceptMap/$translate", {
-                "url": SCT + "?fhir_cm=900000000000527005", "system": SCT, "code": code,
-                "date": with_hyphens(day)}),
-        ):
-            status, said = self.service.gateway.fhir(path, **words)
+        for path, words in ((LOOKUP, {"system": SCT, "code": code, "version": version(day)}),
+                            (LOOKUP, {"system": SCT, "code": code, "date": with_hyphens(day)}),
+                            ("CodeSystem/$validate-code",
+                             {"url": SCT, "code": code, "date": with_hyphens(day)}),
+                            ("CodeSystem/$subsumes", {**both, "version": version(day)}),
+                            ("ValueSet/$expand", {"url": version(day) + "?fhir_vs"}),
+                            ("ConceptMap/$translate",
+                             {"url": SCT + "?fhir_cm=900000000000527005", "system": SCT,
+                              "code": code, "date": with_hyphens(day)})):
+            status, said = self.gateway.fhir(path, **words)
             assert (status, issue(said)) == (404, "not-found"), path
             why = "the store knows nothing of the day %s: its first is 20150131" % day
             assert said["issue"][0]["diagnostics"] == why
@@ -134,63 +110,25 @@ class TestLookup(Asked):
         said = self.ask("wrist", version=SCT + "/" + EDITION)[1]
         assert told(said, "version") == [version("20220731")]
 
-    @pytest.mark.parametrize(
-        "one",
-        (
-            "20180101",
-            SCT + "/x",
-            version("20181301"),
-            version("20180230"),
-            version("2018"),
-            version("201801011"),
-            version("20180101") + "\n",
-            version("\u0662" * 8),
-            "http://snomed.info/xsct/1/version/20180101",
-        ),
-    )
+    @pytest.mark.parametrize("one", (
+        "20180101", SCT + "/x", version("20181301"), version("20180230"), version("2018"),
+        version("201801011"), version("20180101") + "\n", version("\u0662" * 8),
+        "http://snomed.info/xsct/1/version/20180101"))
     def test_bad_versions(self, one: Any) -> None:
         assert self.ask("wrist", version=one)[0] == 400, one
 
-    @pytest.mark.parametrize(
-        "one",
-        (
-            "2018",
-            "2018-06",
-            "2018-02-30",
-            "yesterday",
-            "20180101",
-            "2018-01-01 ",
-            "2018-01-01T",
-            "2018-01-01Tnoon",
-            "2018-01-01T24:00:00Z",
-            "2018-01-01T23:60:00Z",
-            "2018-01-01T23:59:61Z",
-            "2018-01-01T23:59:00+14:01",
-            "0018-01-01",
-            "\u0662018-01-01",
-        ),
-    )
+    @pytest.mark.parametrize("one", (
+        "2018", "2018-06", "2018-02-30", "yesterday", "20180101", "2018-01-01 ", "2018-01-01T",
+        "2018-01-01Tnoon", "2018-01-01T24:00:00Z", "2018-01-01T23:60:00Z", "2018-01-01T23:59:61Z",
+        "2018-01-01T23:59:00+14:01", "0018-01-01", "\u0662018-01-01"))
     def test_bad_dates(self, one: str) -> None:
         assert self.ask("wrist", date=one)[0] == 400, one
 
     def test_unknown_codes(self) -> None:
         wrist = self.codes["wrist"]
-        for one in (
-            "1105008",
-            "abc",
-            "1",
-            "0",
-            "1105007:363698007=1063000",
-            "9" * 18,
-            "1" * 3000,
-            wrist + "\n",
-            "5012010",
-            "0" + wrist,
-            "+" + wrist,
-            wrist + " 20180101",
-            wrist + "\nPIN 1",
-            "\u0661105007",
-        ):
+        for one in ("1105008", "abc", "1", "0", "1105007:363698007=1063000", "9" * 18, "1" * 3000,
+                    wrist + "\n", "5012010", "0" + wrist, "+" + wrist, wrist + " 20180101",
+                    wrist + "\nPIN 1", "\u0661105007"):
             status, said = self.ask(one)
             assert (status, said["resourceType"]) == (404, "OperationOutcome"), one
 
@@ -199,7 +137,7 @@ class TestLookup(Asked):
         assert self.ask("radius", version=version("20200731"))[0] == 200
 
     def test_no_code_and_no_system(self) -> None:
-        fhir = self.service.gateway.fhir
+        fhir = self.gateway.fhir
         assert issue(fhir(LOOKUP, system=SCT)[1]) == "required"
         assert issue(fhir(LOOKUP, code="138875005")[1]) == "required"
         assert fhir(LOOKUP, code="", system=SCT)[0] == 400
@@ -207,7 +145,7 @@ class TestLookup(Asked):
 
     def test_concrete_values_keep_their_digits(self) -> None:
         target = "/fhir/CodeSystem/$lookup?system=%s&code=%s" % (SCT, self.codes["drug"])
-        assert b'"valueDecimal":500.10}' in self.service.gateway.send("GET", target).body
+        assert b'"valueDecimal":500.10}' in self.gateway.send("GET", target).body
         said = self.ask("drug", version=version("20191231"))[1]
         assert properties(said)[self.codes["strength"]] == [500]
         assert properties(said)[self.codes["unit"]] == ["mg"]
@@ -228,15 +166,9 @@ class TestLookup(Asked):
         said = self.ask("drug", property="normalFormTerse", version=version("20191231"))[1]
         codes = self.codes
         assert properties(said)["normalFormTerse"] == [
-            '=== %s:{%s=%s,%s=#500,%s="mg"}'
-            % (
-                codes["product"],
-                codes["ingredient"],
-                codes["substance"],
-                codes["strength"],
-                codes["unit"],
-            )
-        ]
+            '=== %s:{%s=%s,%s=#500,%s="mg"}' % (
+                codes["product"], codes["ingredient"], codes["substance"], codes["strength"],
+                codes["unit"])]
         # Without a parent there is nothing that an expression could begin with.
         for code in ("root", "wrist"):
             said = self.ask(code, property=["normalFormTerse", "inactive"])[1]
@@ -298,37 +230,29 @@ class TestLookup(Asked):
         uses = [one["use"]["code"] for one in parts_of(said, "designation")]
         assert sorted(uses) == ["900000000000003001"] + ["900000000000013009"] * 2
         assert told(self.ask("wrist", displayLanguage="fr")[1], "display") == [
-            "Fracture of wrist joint region (disorder)"
-        ]
+            "Fracture of wrist joint region (disorder)"]
 
-    @pytest.mark.parametrize(
-        "languages, display",
-        (
-            ("fr, de;q=0.5", "Handgelenksfraktur"),
-            ("en;q=0.5,de", "Handgelenksfraktur"),
-            ("de;q=0.5,en", "Fracture of wrist joint region (disorder)"),
-            ("de;q=0, en;q=0.1", "Fracture of wrist joint region (disorder)"),
-            ("fr,*;q=0.1,de;q=0.05", "Handgelenksfraktur"),
-            ("ja,fr", "Fracture of wrist joint region (disorder)"),
-        ),
-    )
+    @pytest.mark.parametrize("languages, display", (
+        ("fr, de;q=0.5", "Handgelenksfraktur"),
+        ("en;q=0.5,de", "Handgelenksfraktur"),
+        ("de;q=0.5,en", "Fracture of wrist joint region (disorder)"),
+        ("de;q=0, en;q=0.1", "Fracture of wrist joint region (disorder)"),
+        ("fr,*;q=0.1,de;q=0.05", "Handgelenksfraktur"),
+        ("ja,fr", "Fracture of wrist joint region (disorder)")))
     def test_list_of_languages(self, languages: str, display: str) -> None:
         """The first one that has a term, whether or not the client wants all to be understood."""
         words = {"system": SCT, "code": self.codes["wrist"], "displayLanguage": languages}
         for prefer in ("", "handling=strict"):
             target = "/fhir/%s?%s" % (LOOKUP, urlencode(words))
-            answer = self.service.gateway.send("GET", target, headers={"Prefer": prefer})
+            answer = self.gateway.send("GET", target, headers={"Prefer": prefer})
             assert (answer.status, told(answer.json(), "display")) == (200, [display]), languages
-        said = self.service.gateway.fhir(
-            "ValueSet/$expand",
-            url="%s?fhir_vs=isa/%s" % (SCT, self.codes["wrist"]),
-            displayLanguage=languages,
-        )[1]["expansion"]
+        said = self.gateway.fhir(
+            "ValueSet/$expand", url="%s?fhir_vs=isa/%s" % (SCT, self.codes["wrist"]),
+            displayLanguage=languages)[1]["expansion"]
         assert [one["display"] for one in said["contains"]] == [display]
 
-    @pytest.mark.parametrize(
-        "languages", ("de,", ",", "de;q=2", "de;q=x", "de;q=0.1234", "de;r=1", "de en", "de,e")
-    )
+    @pytest.mark.parametrize("languages", (
+        "de,", ",", "de;q=2", "de;q=x", "de;q=0.1234", "de;r=1", "de en", "de,e"))
     def test_lists_that_are_none(self, languages: str) -> None:
         assert self.ask("wrist", displayLanguage=languages)[0] == 400
 
@@ -336,83 +260,68 @@ class TestLookup(Asked):
         """Which are passed over and told, or refused where the client wants that."""
         target = "/fhir/%s?system=%s&code=138875005&property=inactive&property=" % (LOOKUP, SCT)
         for name in ("ancestor", "normalform", "inactiv"):
-            answer = self.service.gateway.send("GET", target + name)
+            answer = self.gateway.send("GET", target + name)
             assert (answer.status, len(told(answer.json(), "warning"))) == (200, 1), name
             wish = {"Prefer": "handling=strict"}
-            assert self.service.gateway.send("GET", target + name, headers=wish).status == 400
+            assert self.gateway.send("GET", target + name, headers=wish).status == 400
         for name in ("*", "designation", "display", self.codes["site"]):
-            answer = self.service.gateway.send("GET", target + name)
+            answer = self.gateway.send("GET", target + name)
             assert told(answer.json(), "warning") == [], name
 
     def test_post_with_a_coding(self) -> None:
         coding = {"system": SCT, "code": self.codes["wrist"], "version": version("20180101")}
         posted = {"name": "coding", "valueCoding": coding}
-        status, said = self.service.gateway.posted(LOOKUP, posted)
+        status, said = self.gateway.posted(LOOKUP, posted)
         assert (status, told(said, "display")) == (200, ["Fracture of wrist (disorder)"])
 
     def test_version_beside_a_coding(self) -> None:
         coding = {"name": "coding", "valueCoding": {"system": SCT, "code": self.codes["wrist"]}}
         for day, release, name in (
-            ("20180101", "20170731", "Fracture of wrist (disorder)"),
-            ("20190101", "20180731", "Fracture of wrist joint region (disorder)"),
-        ):
-            said = self.service.gateway.posted(
-                LOOKUP, coding, {"name": "version", "valueString": version(day)}
-            )[1]
+                ("20180101", "20170731", "Fracture of wrist (disorder)"),
+                ("20190101", "20180731", "Fracture of wrist joint region (disorder)")):
+            said = self.gateway.posted(
+                LOOKUP, coding, {"name": "version", "valueString": version(day)})[1]
             assert (told(said, "version"), told(said, "display")) == ([version(release)], [name])
 
     def test_two_ways_to_name_the_code(self) -> None:
         coding = {"system": SCT, "code": self.codes["wrist"]}
-        status, said = self.service.gateway.posted(
-            LOOKUP,
-            {"name": "coding", "valueCoding": coding},
-            {"name": "code", "valueCode": self.codes["limb"]},
-            {"name": "system", "valueUri": SCT},
-        )
+        status, said = self.gateway.posted(
+            LOOKUP, {"name": "coding", "valueCoding": coding},
+            {"name": "code", "valueCode": self.codes["limb"]}, {"name": "system", "valueUri": SCT})
         assert (status, issue(said)) == (400, "conflict")
 
-    @pytest.mark.parametrize(
-        "coding, status",
-        (
-            ({"code": "138875005"}, 400),
-            ({"system": SCT}, 400),
-            (7, 400),
-            ([], 400),
-            ({"system": SCT, "code": 138875005}, 400),
-            ({"system": "http://loinc.org", "code": "138875005"}, 404),
-        ),
-    )
+    @pytest.mark.parametrize("coding, status", (
+        ({"code": "138875005"}, 400),
+        ({"system": SCT}, 400),
+        (7, 400),
+        ([], 400),
+        ({"system": SCT, "code": 138875005}, 400),
+        ({"system": "http://loinc.org", "code": "138875005"}, 404)))
     def test_bad_codings(self, coding: Any, status: int) -> None:
         part = {"name": "coding", "valueCoding": coding}
-        assert self.service.gateway.posted(LOOKUP, part)[0] == status, coding
+        assert self.gateway.posted(LOOKUP, part)[0] == status, coding
 
     def test_pin(self) -> None:
-        gateway, wrist = self.service.gateway, self.codes["wrist"]
+        gateway, wrist = self.gateway, self.codes["wrist"]
         said = gateway.fhir(LOOKUP, "/pin/1/fhir/", system=SCT, code=wrist)[1]
         assert told(said, "version") == [version("20190131")]
         assert gateway.fhir(LOOKUP, "/pin/0/fhir/", system=SCT, code=wrist)[0] == 404
         headers = gateway.send("GET", "/pin/2/fhir/metadata").headers
         assert (headers["x-sctd-pin"], headers["x-sctd-receipt"]) == (
-            "2",
-            "RECEIPT 2: OK 2 18 20210131",
-        )
+            "2", "RECEIPT 2: OK 2 18 20210131")
 
     def test_answers_and_refusals_are_of_a_pin(self) -> None:
         for code in (self.codes["wrist"], "138875005", "999999"):
             target = "/fhir/CodeSystem/$lookup?system=%s&code=%s" % (SCT, code)
-            answer = self.service.gateway.send("GET", target)
+            answer = self.gateway.send("GET", target)
             assert answer.headers["x-sctd-pin"] == "3", code
-            again = self.service.gateway.send("GET", "/pin/3" + target)
+            again = self.gateway.send("GET", "/pin/3" + target)
             assert (again.status, again.body) == (answer.status, answer.body)
             assert again.headers["x-sctd-receipt"] == answer.headers["x-sctd-receipt"]
 
     def test_designation_values(self) -> None:
-        terms = [
-            one["value"] for one in parts_of(self.ask("wrist", date="2016-01-01")[1], "designation")
-        ]
+        terms = [one["value"]
+                 for one in parts_of(self.ask("wrist", date="2016-01-01")[1], "designation")]
         assert sorted(terms) == [
-            "Broken wrist",
-            "Fracture of wrist (disorder)",
-            "Handgelenksfraktur",
-        ]
+            "Broken wrist", "Fracture of wrist (disorder)", "Handgelenksfraktur"]
         assert all(value(part) for part in self.ask("wrist")[1]["parameter"] if "part" not in part)

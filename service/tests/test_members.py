@@ -40,7 +40,7 @@ class Whole(Asked):
 
     def lookup(self, name: str, **words: Any) -> Json:
         code = self.codes[name]
-        status, said = self.service.gateway.fhir(LOOKUP, system=SCT, code=code, **words)
+        status, said = self.gateway.fhir(LOOKUP, system=SCT, code=code, **words)
         assert status == 200, said
         return said
 
@@ -50,7 +50,7 @@ class Whole(Asked):
 
     def refset(self, name: str, **words: Any) -> tuple[int, Json]:
         url = "%s?fhir_vs=refset/%s" % (SCT, self.codes[name])
-        return self.service.gateway.fhir(EXPAND, url=url, **words)
+        return self.gateway.fhir(EXPAND, url=url, **words)
 
     def expanded(self, name: str, **words: Any) -> Json:
         status, said = self.refset(name, **words)
@@ -74,22 +74,18 @@ class TestDisplays(Whole):
         name = "Paracetamol 500 mg oral tablet (clinical drug)"
         assert self.display("drug") == name
 
-    @pytest.mark.parametrize(
-        "tag, display",
-        (
-            ("en-US", "Anemia"),
-            ("EN-us", "Anemia"),
-            ("en-GB", "Anaemia"),
-            (US_TAG, "Anemia"),
-            (GB_TAG, "Anaemia"),
-            ("en", "Anaemia"),  # The house's English.
-            ("en-ZA", "Anaemia"),
-            ("de", "An\u00e4mie"),
-            ("de-DE", "An\u00e4mie"),
-            ("fr", "Anemia (disorder)"),
-            ("en-AU", "Anemia (disorder)"),  # Its reference set isn't there.
-        ),
-    )
+    @pytest.mark.parametrize("tag, display", (
+        ("en-US", "Anemia"),
+        ("EN-us", "Anemia"),
+        ("en-GB", "Anaemia"),
+        (US_TAG, "Anemia"),
+        (GB_TAG, "Anaemia"),
+        ("en", "Anaemia"),  # The house's English.
+        ("en-ZA", "Anaemia"),
+        ("de", "An\u00e4mie"),
+        ("de-DE", "An\u00e4mie"),
+        ("fr", "Anemia (disorder)"),
+        ("en-AU", "Anemia (disorder)")))  # Its reference set isn't there.
     def test_language_asked_for(self, tag: Any, display: str) -> None:
         assert self.display("anaemia", displayLanguage=tag) == display, tag
 
@@ -98,40 +94,26 @@ class TestDisplays(Whole):
         display = self.display("wrist", date="2018-01-01", displayLanguage=tag)
         assert display == "Fracture of wrist (disorder)", tag
 
-    @pytest.mark.parametrize(
-        "date, display",
-        (
-            ("2017-07-30", "Broken wrist"),
-            ("2017-07-31", "Wrist fracture"),
-            ("2018-07-10", "Wrist fracture"),  # Another one is acceptable for some days.
-        ),
-    )
+    @pytest.mark.parametrize("date, display", (
+        ("2017-07-30", "Broken wrist"),
+        ("2017-07-31", "Wrist fracture"),
+        ("2018-07-10", "Wrist fracture")))  # Another one is acceptable for some days.
     def test_preferred_on_the_day(self, date: str, display: str) -> None:
         assert self.display("wrist", date=date) == display, date
 
-    @pytest.mark.parametrize(
-        "tag",
-        (
-            "en-x-sctlang-",
-            "en-x-sctlang-12",
-            "en-x-sctlang-90000000-00005090-08",
-            "en-x-sctlang-9000000000005090-07",
-            "en-x-sctlang-90000000-0000509a-07",
-            "en-x-sctlang-90000000-00005090-07\n",
-            "x-sctlang-90000000-00005090-07",
-            "900000000000509007",
-            "",
-        ),
-    )
+    @pytest.mark.parametrize("tag", (
+        "en-x-sctlang-", "en-x-sctlang-12", "en-x-sctlang-90000000-00005090-08",
+        "en-x-sctlang-9000000000005090-07", "en-x-sctlang-90000000-0000509a-07",
+        "en-x-sctlang-90000000-00005090-07\n", "x-sctlang-90000000-00005090-07",
+        "900000000000509007", ""))
     def test_wrong_tags(self, tag: str) -> None:
-        status, said = self.service.gateway.fhir(
-            LOOKUP, system=SCT, code=self.codes["wrist"], displayLanguage=tag
-        )
+        status, said = self.gateway.fhir(
+            LOOKUP, system=SCT, code=self.codes["wrist"], displayLanguage=tag)
         assert (status, issue(said)) == (400, "invalid"), tag
 
     def test_where_else_a_concept_is_shown(self) -> None:
         url = "%s?fhir_vs=isa/%s" % (SCT, self.codes["anaemia"])
-        fhir, code = self.service.gateway.fhir, self.codes["anaemia"]
+        fhir, code = self.gateway.fhir, self.codes["anaemia"]
         cases: list[tuple[dict[str, str], str]] = [({}, "Anaemia")]
         for words, display in [*cases, ({"displayLanguage": "en-US"}, "Anemia")]:
             said = fhir(EXPAND, url=url, **words)[1]["expansion"]["contains"]
@@ -141,31 +123,27 @@ class TestDisplays(Whole):
 
     def test_a_definition_is_no_name(self) -> None:
         words = {"url": SCT, "code": self.codes["wrist"], "display": demo.DEFINITION}
-        said = self.service.gateway.fhir("CodeSystem/$validate-code", **words)[1]
+        said = self.gateway.fhir("CodeSystem/$validate-code", **words)[1]
         assert told(said, "result") == [False]
-        found = self.service.gateway.fhir(EXPAND, url=SCT + "?fhir_vs", filter="a break of bones")
+        found = self.gateway.fhir(EXPAND, url=SCT + "?fhir_vs", filter="a break of bones")
         assert found[1]["expansion"]["total"] == 0
         assert self.gateway.send("GET", "/suggest?text=a+break").text == "[]"
-        assert "No term begins" in self.service.gateway.send("GET", "/?q=A+break").text
+        assert "No term begins" in self.gateway.send("GET", "/?q=A+break").text
 
 
 class TestTags:
-    @pytest.mark.parametrize(
-        "tag, house, code, refsets_of",
-        (
-            ("en", (), "en", (demo.US, demo.GB)),
-            ("en", (demo.GB,), "en", (demo.GB,)),
-            ("en", (demo.GERMAN,), "en", (demo.US, demo.GB)),
-            ("de", (demo.GB, demo.GERMAN), "de", (demo.GERMAN,)),
-            ("de", ("2041000195100", demo.GERMAN), "de", ("2041000195100", demo.GERMAN)),
-            ("de-CH", (demo.GERMAN,), "de", ("2041000195100",)),
-            ("de-CH-1996", (), "de", ("2041000195100",)),
-            ("en-nhs-clinical", (), "en", ("999001261000000100",)),
-            ("it", (demo.US,), "it", ()),
-            ("es-419", (), "es", ("450828004",)),
-            ("es-MX", (), "es", ("448879004",)),
-        ),
-    )
+    @pytest.mark.parametrize("tag, house, code, refsets_of", (
+        ("en", (), "en", (demo.US, demo.GB)),
+        ("en", (demo.GB,), "en", (demo.GB,)),
+        ("en", (demo.GERMAN,), "en", (demo.US, demo.GB)),
+        ("de", (demo.GB, demo.GERMAN), "de", (demo.GERMAN,)),
+        ("de", ("2041000195100", demo.GERMAN), "de", ("2041000195100", demo.GERMAN)),
+        ("de-CH", (demo.GERMAN,), "de", ("2041000195100",)),
+        ("de-CH-1996", (), "de", ("2041000195100",)),
+        ("en-nhs-clinical", (), "en", ("999001261000000100",)),
+        ("it", (demo.US,), "it", ()),
+        ("es-419", (), "es", ("450828004",)),
+        ("es-MX", (), "es", ("448879004",))))
     def test_what_a_tag_means(self, tag: str, house: Any, code: str, refsets_of: Any) -> None:
         found = languages.language_of(tag, house)
         assert (found.code, found.refsets) == (code, refsets_of), tag
@@ -199,8 +177,7 @@ class TestDesignations(Whole):
             "Anemia (disorder)": [(gb, preferred, FSN), (us, preferred, FSN)],
             "Anemia": [(gb, acceptable, SYNONYM), (us, preferred, SYNONYM)],
             "Anaemia": [(gb, preferred, SYNONYM)],
-            "An\u00e4mie": [],
-        }
+            "An\u00e4mie": []}
         assert self.contexts(self.lookup("anaemia", date="2018-01-01")) == wanted
         wanted["Anemia"].pop(0)
         assert self.contexts(self.lookup("anaemia", date="2019-01-31")) == wanted
@@ -213,20 +190,16 @@ class TestDesignations(Whole):
     def test_uses(self) -> None:
         found = {one["value"]: one["use"] for one in parts_of(self.lookup("wrist"), "designation")}
         assert found[demo.DEFINITION] == {
-            "system": SCT,
-            "code": demo.TEXT_DEFINITION,
-            "display": "Definition",
-        }
+            "system": SCT, "code": demo.TEXT_DEFINITION, "display": "Definition"}
         assert found["Wrist fracture"]["display"] == "Synonym"
 
     def test_of_an_expansion(self) -> None:
         url = "%s?fhir_vs=isa/%s" % (SCT, self.codes["anaemia"])
-        said = self.service.gateway.fhir(EXPAND, url=url, includeDesignations="true")[1]
+        said = self.gateway.fhir(EXPAND, url=url, includeDesignations="true")[1]
         designations = said["expansion"]["contains"][0]["designation"]
         found = {one["value"]: one for one in designations}
         assert [context(one) for one in found["Anaemia"]["extension"]] == [
-            (demo.GB, demo.PREFERRED, SYNONYM)
-        ]
+            (demo.GB, demo.PREFERRED, SYNONYM)]
         assert found["Anaemia"]["use"]["code"] == SYNONYM
         assert "extension" not in found["An\u00e4mie"]
 
@@ -239,18 +212,14 @@ def context(extension: Json) -> Context:
 
 
 class TestReasons(Whole):
-    @pytest.mark.parametrize(
-        "name, date, reasons",
-        (
-            ("wrist", "2021-01-30", []),
-            ("wrist", "2021-01-31", [demo.AMBIGUOUS]),
-            ("wrist", "2022-07-30", [demo.AMBIGUOUS]),
-            ("wrist", "2022-07-31", [demo.DUPLICATE]),
-            ("radius", "2022-07-31", [demo.DUPLICATE, demo.AMBIGUOUS]),
-            ("lost", "2022-07-31", []),
-            ("carpal", "2022-07-31", [demo.PENDING_MOVE, demo.AMBIGUOUS]),
-        ),
-    )
+    @pytest.mark.parametrize("name, date, reasons", (
+        ("wrist", "2021-01-30", []),
+        ("wrist", "2021-01-31", [demo.AMBIGUOUS]),
+        ("wrist", "2022-07-30", [demo.AMBIGUOUS]),
+        ("wrist", "2022-07-31", [demo.DUPLICATE]),
+        ("radius", "2022-07-31", [demo.DUPLICATE, demo.AMBIGUOUS]),
+        ("lost", "2022-07-31", []),
+        ("carpal", "2022-07-31", [demo.PENDING_MOVE, demo.AMBIGUOUS])))
     def test_why_a_concept_was_retired(self, name: str, date: str, reasons: Any) -> None:
         found = properties(self.lookup(name, date=date)).get("inactivationIndicator", [])
         assert found == reasons, (name, date)
@@ -263,17 +232,13 @@ class TestReasons(Whole):
 
 
 class TestRefsets(Whole):
-    @pytest.mark.parametrize(
-        "day, names",
-        (
-            ("20170730", ("wrist",)),
-            ("20170731", ("wrist", "limb")),
-            ("20200131", ("limb",)),
-            ("20210130", ("limb", "radius")),
-            ("20210131", ("wrist", "limb", "radius")),
-            ("20220731", ("wrist", "limb", "radius", "absent")),
-        ),
-    )
+    @pytest.mark.parametrize("day, names", (
+        ("20170730", ("wrist",)),
+        ("20170731", ("wrist", "limb")),
+        ("20200131", ("limb",)),
+        ("20210130", ("limb", "radius")),
+        ("20210131", ("wrist", "limb", "radius")),
+        ("20220731", ("wrist", "limb", "radius", "absent"))))
     def test_concepts_on_a_day(self, day: str, names: Any) -> None:
         system = {"system_version": SCT + "|" + version(day)}
         said = self.expanded("set", **system)
@@ -282,7 +247,7 @@ class TestRefsets(Whole):
 
     def test_version_of_the_url(self) -> None:
         url = "%s?fhir_vs=refset/%s" % (version("20200131"), self.codes["set"])
-        said = self.service.gateway.fhir(EXPAND, url=url)[1]["expansion"]
+        said = self.gateway.fhir(EXPAND, url=url)[1]["expansion"]
         assert [one["code"] for one in said["contains"]] == self.named("limb")
 
     def test_entries(self) -> None:
@@ -292,8 +257,7 @@ class TestRefsets(Whole):
             self.codes["wrist"]: ("Wrist fracture", True),
             self.codes["limb"]: ("Fracture of bone of upper limb (disorder)", False),
             self.codes["radius"]: ("Fracture of distal end of radius (disorder)", True),
-            self.codes["absent"]: (self.codes["absent"], False),
-        }
+            self.codes["absent"]: (self.codes["absent"], False)}
 
     def test_pages(self) -> None:
         whole = self.in_set()
@@ -320,67 +284,45 @@ class TestRefsets(Whole):
         assert self.expanded("left", **before)["total"] == 1
         # Before the first member there was none.
         url = "%s?fhir_vs=refset/%s" % (version("20150131"), demo.INDICATORS)
-        said = self.service.gateway.fhir(EXPAND, url=url)[1]
+        said = self.gateway.fhir(EXPAND, url=url)[1]
         assert said["expansion"]["total"] == 0
 
     def test_that_are_not_kept(self) -> None:
-        for code, status, why in (
-            (self.codes["never"], 422, "not-supported"),
-            (self.codes["wrist"], 422, "not-supported"),
-            (str(sctid(4711, "00")), 404, "not-found"),
-            ("1105008", 400, "invalid"),
-            ("", 400, "invalid"),
-        ):
+        for code, status, why in ((self.codes["never"], 422, "not-supported"),
+                                  (self.codes["wrist"], 422, "not-supported"),
+                                  (str(sctid(4711, "00")), 404, "not-found"),
+                                  ("1105008", 400, "invalid"), ("", 400, "invalid")):
             url = "%s?fhir_vs=refset/%s" % (SCT, code)
-            for path, words in (
-                (EXPAND, {"url": url}),
-                (EXPAND, {"url": url, "filter": "fracture"}),
-                (
-                    "ValueSet/$validate-code",
-                    {"url": url, "system": SCT, "code": self.codes["wrist"]},
-                ),
-            ):
-                got, said = self.service.gateway.fhir(path, **words)
+            for path, words in ((EXPAND, {"url": url}),
+                                (EXPAND, {"url": url, "filter": "fracture"}),
+                                ("ValueSet/$validate-code",
+                                 {"url": url, "system": SCT, "code": self.codes["wrist"]})):
+                got, said = self.gateway.fhir(path, **words)
                 assert (got, issue(said)) == (status, why), (path, code)
 
     def test_validate_code(self) -> None:
         url = "%s?fhir_vs=refset/%s" % (SCT, self.codes["set"])
-        for name, day, valid in (
-            ("wrist", "20200130", True),
-            ("wrist", "20200131", False),
-            ("wrist", "20210131", True),
-            ("carpal", "20210131", False),
-            ("absent", "20220731", False),
-        ):
-            said = self.service.gateway.fhir(
-                "ValueSet/$validate-code",
-                url=url,
-                system=SCT,
-                code=self.codes[name],
-                systemVersion=version(day),
-            )[1]
+        for name, day, valid in (("wrist", "20200130", True), ("wrist", "20200131", False),
+                                 ("wrist", "20210131", True), ("carpal", "20210131", False),
+                                 ("absent", "20220731", False)):
+            said = self.gateway.fhir("ValueSet/$validate-code", url=url, system=SCT,
+                                             code=self.codes[name], systemVersion=version(day))[1]
             assert told(said, "result") == [valid], (name, day)
             if name == "carpal":
                 assert "in the reference set" in told(said, "message")[0]
 
     def test_which_there_are(self) -> None:
-        for day, names in (
-            ("20220731", ("us", "gb", "indicators", "ctv3", "odd", "set")),
-            ("20180101", ("us", "gb", "ctv3", "odd", "set", "left")),
-        ):
+        for day, names in (("20220731", ("us", "gb", "indicators", "ctv3", "odd", "set")),
+                           ("20180101", ("us", "gb", "ctv3", "odd", "set", "left"))):
             url = version(day) + "?fhir_vs=refset"
-            said = self.service.gateway.fhir(EXPAND, url=url)[1]["expansion"]
+            said = self.gateway.fhir(EXPAND, url=url)[1]["expansion"]
             found = [one["code"] for one in said["contains"]]
             assert (found, said["total"]) == (self.named(*names), len(names)), day
         for name, valid in (("set", True), ("never", False), ("wrist", False)):
-            said = self.service.gateway.fhir(
-                "ValueSet/$validate-code",
-                url=SCT + "?fhir_vs=refset",
-                system=SCT,
-                code=self.codes[name],
-            )[1]
+            said = self.gateway.fhir("ValueSet/$validate-code", url=SCT + "?fhir_vs=refset",
+                                             system=SCT, code=self.codes[name])[1]
             assert told(said, "result") == [valid], name
-        said = self.service.gateway.fhir(EXPAND, url=SCT + "?fhir_vs=refset", filter="wrists of")[1]
+        said = self.gateway.fhir(EXPAND, url=SCT + "?fhir_vs=refset", filter="wrists of")[1]
         assert said["expansion"]["contains"][0]["code"] == self.codes["set"]
 
 
@@ -388,17 +330,11 @@ class TestMaps(Whole):
     def ask(self, name: str, refset: str = demo.CTV3, **words: Any) -> tuple[int, Json]:
         url = "%s?fhir_cm=%s" % (SCT, refset)
         code = self.codes[name]
-        return self.service.gateway.fhir(TRANSLATE, url=url, system=SCT, code=code, **words)
+        return self.gateway.fhir(TRANSLATE, url=url, system=SCT, code=code, **words)
 
-    @pytest.mark.parametrize(
-        "name, date, targets",
-        (
-            ("wrist", "2022-07-31", ["S23.."]),
-            ("limb", "2019-01-30", ["X1"]),
-            ("limb", "2019-01-31", ["X1", "X2"]),
-            ("limb", "2020-01-31", ["X3", "X2"]),
-        ),
-    )
+    @pytest.mark.parametrize("name, date, targets", (
+        ("wrist", "2022-07-31", ["S23.."]), ("limb", "2019-01-30", ["X1"]),
+        ("limb", "2019-01-31", ["X1", "X2"]), ("limb", "2020-01-31", ["X3", "X2"])))
     def test_targets_on_a_day(self, name: str, date: str, targets: Any) -> None:
         status, said = self.ask(name, date=date)
         assert (status, told(said, "result")) == (200, [True]), name
@@ -428,13 +364,8 @@ class TestMaps(Whole):
         assert self.ask("limb", str(sctid(4711, "00")))[0] == 404
 
     def test_what_is_no_simple_map(self) -> None:
-        for refset, status in (
-            (self.codes["set"], 404),
-            (demo.INDICATORS, 404),
-            (self.codes["odd"], 422),
-            (demo.SIMPLE_MAP, 422),
-            ("1105008", 404),
-        ):
+        for refset, status in ((self.codes["set"], 404), (demo.INDICATORS, 404),
+                               (self.codes["odd"], 422), (demo.SIMPLE_MAP, 422), ("1105008", 404)):
             assert self.ask("limb", refset)[0] == status, refset
         assert self.ask("limb", reverse="true")[0] == 422
 
@@ -447,11 +378,11 @@ class TestMaps(Whole):
 
 class TestCapabilities(Whole):
     def test_what_is_new(self) -> None:
-        said = self.service.gateway.fhir("metadata", mode="terminology")[1]
+        said = self.gateway.fhir("metadata", mode="terminology")[1]
         for one in said["codeSystem"][0]["version"]:
             assert one["language"] == ["en-GB", "en-US"]
             assert "inactivationIndicator" in one["property"]
-        said = self.service.gateway.fhir("metadata")[1]
+        said = self.gateway.fhir("metadata")[1]
         found = {one["type"]: one["operation"][0] for one in said["rest"][0]["resource"]}
         assert "fhir_vs=refset/CODE" in found["ValueSet"]["documentation"]
         assert "a simple map" in found["ConceptMap"]["documentation"]
@@ -461,7 +392,7 @@ class TestCapabilities(Whole):
 class TestPage(Whole):
     def page(self, name: str, **words: str) -> str:
         target = "/?" + urlencode({"q": self.codes[name], **words})
-        answer = self.service.gateway.send("GET", target)
+        answer = self.gateway.send("GET", target)
         assert answer.status == 200
         return answer.text
 
@@ -471,10 +402,8 @@ class TestPage(Whole):
         if found is None:
             return []
         cells = re.findall(r"<td[^>]*>(.*?)</td>", found[1])
-        return [
-            [re.sub(r"<[^>]*>", "", one) for one in re.findall(r"<li>(.*?)</li>", cell)]
-            for cell in cells
-        ]
+        return [[re.sub(r"<[^>]*>", "", one) for one in re.findall(r"<li>(.*?)</li>", cell)]
+                for cell in cells]
 
     def test_preferred_terms(self) -> None:
         text = self.page("anaemia", date="2018-01-01")
@@ -484,9 +413,7 @@ class TestPage(Whole):
         text = self.page("wrist", date="2016-01-01")
         us = " " + demo.US_NAME
         assert self.row(text, "Preferred term") == [
-            ["Broken wrist%s only then" % us],
-            ["Wrist fracture%s not then" % us],
-        ]
+            ["Broken wrist%s only then" % us], ["Wrist fracture%s not then" % us]]
         assert self.row(self.page("drug"), "Preferred term") == []
 
     def test_definition(self) -> None:
@@ -505,8 +432,7 @@ class TestPage(Whole):
             )
         assert self.row(text, "Why retired") == [
             ["Ambiguous component %s only then" % demo.AMBIGUOUS],
-            ["Duplicate component %s not then" % demo.DUPLICATE],
-        ]
+            ["Duplicate component %s not then" % demo.DUPLICATE]]
         changed = " changed: <bdi>%s component</bdi> \u2192 <bdi>%s component</bdi>"
         assert demo.INDICATORS_NAME + changed % ("Ambiguous", "Duplicate") in text
         for active in ("limb", "carpal"):
@@ -521,13 +447,10 @@ class TestPage(Whole):
         then, now = self.row(text, "Reference sets")
         ctv3 = "CTV3 simple map reference set %s since 31 January 2015: S23.." % demo.CTV3
         indicators = "%s %s since 31 January 2021: Duplicate component" % (
-            demo.INDICATORS_NAME,
-            demo.INDICATORS,
-        )
+            demo.INDICATORS_NAME, demo.INDICATORS)
         assert then == [name + "since 31 January 2015 only then", ctv3]
-        assert sorted(now) == sorted(
-            [name + "since 31 January 2021 not then", indicators + " not then", ctv3]
-        )
+        assert sorted(now) == sorted([
+            name + "since 31 January 2021 not then", indicators + " not then", ctv3])
         # On the days between it wasn't in the set; the history has each of them.
         between = self.row(self.page("wrist", date="2020-01-31"), "Reference sets")[0]
         assert between == [ctv3]
@@ -569,8 +492,7 @@ class TestWithoutMembers:
         asked: tuple[tuple[str, dict[str, str]], ...] = (
             (EXPAND, {}),
             (EXPAND, {"filter": "fracture"}),
-            ("ValueSet/$validate-code", {"system": SCT, "code": codes["limb"]}),
-        )
+            ("ValueSet/$validate-code", {"system": SCT, "code": codes["limb"]}))
         for what in ("refset", "refset/" + codes["wrist"]):
             for path, words in asked:
                 status, said = fhir(path, url=SCT + "?fhir_vs=" + what, **words)
@@ -602,8 +524,7 @@ class TestWithoutMembers:
             (LOOKUP, {**code, "property": "inactivationIndicator", "displayLanguage": "de"}),
             (EXPAND, {"url": refset}),
             (EXPAND, {"url": SCT + "?fhir_vs=refset"}),
-            ("ValueSet/$validate-code", {"url": refset, **code}),
-        )
+            ("ValueSet/$validate-code", {"url": refset, **code}))
         for path, words in needing:
             status, said = fhir(path, **words)
             assert (status, issue(said)) == (422, "not-supported"), (path, words)
@@ -630,9 +551,7 @@ class TestAnotherStore:
         request.addfinalizer(service.end)
         url = "%s?fhir_vs=refset/%s" % (version("20210131"), service.codes["set"])
         for releases, names in (
-            (("d1", "d2"), ("wrist", "limb", "radius")),
-            (("d1", "d3"), ("wrist", "limb")),
-        ):
+                (("d1", "d2"), ("wrist", "limb", "radius")), (("d1", "d3"), ("wrist", "limb"))):
             service.stop_hub()
             os.unlink(service.store)
             service.make_store(*releases)
@@ -660,9 +579,7 @@ class TestRows:
         other = self.MEMBER + "\t" + demo.PREFERRED
         found = called_of((self.DESCRIPTION, one, other, self.DESCRIPTION, one, "END 5"))
         assert [said for _, said in found] == [
-            (demo.ACCEPTABLE, demo.PREFERRED),
-            (demo.ACCEPTABLE,),
-        ]
+            (demo.ACCEPTABLE, demo.PREFERRED), (demo.ACCEPTABLE,)]
         assert [bool(one.is_preferred_term) for one in found] == [True, False]
         for lines in ((one, "END 1"), ("ROW 5012010\t20150131", "END 1")):
             with pytest.raises(HubGone):
@@ -687,9 +604,8 @@ class ManyMembers(View):
         self.session = cast(Session, NothingRemembered())
         self.count, self.asked = count, list[str]()
 
-    async def values(
-        self, refset: str, day: str, after: str, keep: bool = True
-    ) -> list[RefsetMember]:
+    async def values(self, refset: str, day: str, after: str,
+                     keep: bool = True) -> list[RefsetMember]:
         self.asked.append(after)
         first = 0 if after == "-" else int(after) // 1000
         last = min(first + limits.QUESTION_ROWS, self.count)
@@ -744,13 +660,9 @@ class TestMemberships:
     def test_since_when(self) -> None:
         days = ("20150131", "20160131", "20170131", "20180131")
         for actives, day, since in (
-            ("1111", "20180131", "20150131"),
-            ("1011", "20180131", "20170131"),
-            ("1010", "20180131", ""),
-            ("1010", "20171231", "20170131"),
-            ("0111", "20150131", ""),
-            ("1111", "20141231", ""),
-        ):
+                ("1111", "20180131", "20150131"), ("1011", "20180131", "20170131"),
+                ("1010", "20180131", ""), ("1010", "20171231", "20170131"),
+                ("0111", "20150131", ""), ("1111", "20141231", "")):
             versions = [member("7", time, active) for time, active in zip(days, actives)]
             found = memberships([versions], "7", day)
             assert [one.since for one in found] == ([since] if since else []), actives

@@ -33,9 +33,7 @@ def scraped(gateway: Gateway) -> dict[tuple[str, frozenset[tuple[str, str]]], fl
     time.sleep(METRICS_SECONDS)  # The hub makes it anew from then on.
     answer = gateway.send("GET", "/metrics")
     assert (answer.status, answer.headers["content-type"]) == (
-        200,
-        "text/plain; version=0.0.4; charset=utf-8",
-    )
+        200, "text/plain; version=0.0.4; charset=utf-8")
     return samples(answer.text)
 
 
@@ -66,8 +64,7 @@ class TestCounted(Asked):
             ("GET", "/live", "/live", "200"),
             ("GET", "/nothing/of/this", "other", "404"),
             ("GET", "/fhir/Patient", "other", "404"),
-            ("GET", "/pin%2f1/health", "other", "404"),
-        )
+            ("GET", "/pin%2f1/health", "other", "404"))
         names = {"lookup": "CodeSystem/$lookup"}
         before = scraped(self.gateway)
         for method, target, _, status in asked:
@@ -96,17 +93,11 @@ class TestCounted(Asked):
             _, imports, rows, segments, _ = hub.recv(1 << 16).split()
         with open(self.service.store, "rb") as file:
             size = file.seek(0, 2)
-        for name, value in (
-            ("sctd_pin", int(imports)),
-            ("sctd_gateway_pin", int(imports)),
-            ("sctd_rows", int(rows)),
-            ("sctd_segments", int(segments)),
-            ("sctd_bytes", size),
-            ("sctd_damaged", 0),
-            ("sctd_gateway_hub_up", 1),
-            # 31 July 2022.
-            ("sctd_gateway_latest_release_timestamp_seconds", 1_659_225_600),
-        ):
+        for name, value in (("sctd_pin", int(imports)), ("sctd_gateway_pin", int(imports)),
+                            ("sctd_rows", int(rows)), ("sctd_segments", int(segments)),
+                            ("sctd_bytes", size), ("sctd_damaged", 0), ("sctd_gateway_hub_up", 1),
+                            # 31 July 2022.
+                            ("sctd_gateway_latest_release_timestamp_seconds", 1_659_225_600)):
             assert found[name, labels()] == value, name
         began = found["sctd_gateway_start_time_seconds", labels()]
         assert 0 <= time.time() - began < LATE_SECONDS
@@ -116,12 +107,8 @@ class TestCounted(Asked):
     def test_changes_by_result(self) -> None:
         self.change(b"IMPORT d1", b"IMPORT nothing", b"IMPORT nothing", b"CHECK d2", b"FROB")
         found = scraped(self.gateway)
-        for command, result, count in (
-            ("IMPORT", "OK", 1),
-            ("IMPORT", "ERR 45 NoFolder", 2),
-            ("CHECK", "OK", 1),
-            ("other", "ERR 42 Command", 1),
-        ):
+        for command, result, count in (("IMPORT", "OK", 1), ("IMPORT", "ERR 45 NoFolder", 2),
+                                       ("CHECK", "OK", 1), ("other", "ERR 42 Command", 1)):
             key = ("sctd_changes_total", labels(command=command, result=result))
             assert found[key] == count, key
         assert found["sctd_line_seconds_count", labels(line="IMPORT")] == 3
@@ -165,25 +152,19 @@ class TestTimes:
         for seconds in (0.0, BOUNDS[0], 0.5, 5_000.0):
             metrics.took(b"7 AT 2 GET C 138875005 20200101\n", seconds)
         found = samples(metrics.text([]))
-        buckets = [
-            found["sctd_line_seconds_bucket", labels(line="GET", le=bound)]
-            for bound in (*map(str, BOUNDS), "+Inf")
-        ]
+        buckets = [found["sctd_line_seconds_bucket", labels(line="GET", le=bound)]
+                   for bound in (*map(str, BOUNDS), "+Inf")]
         assert buckets == [2, 2, 2, 2, 3, 3, 3, 4]
         assert found["sctd_line_seconds_count", labels(line="GET")] == 4
         assert found["sctd_longest_line_seconds", labels(line="GET")] == 5_000
 
-    @pytest.mark.parametrize(
-        "line, kind",
-        (
-            (b"0 STATUS\n", "STATUS"),
-            (b"1023 IMPORT r1\r\n", "IMPORT"),
-            (b"1 AT 5 DESCENDANTS 138875005 20200101\n", "DESCENDANTS"),
-            (b"1 AT 5\n", "other"),
-            (b"1 \n", "other"),
-            (b"1 status\n", "other"),
-            (b"1 \xff\n", "other"),
-        ),
-    )
+    @pytest.mark.parametrize("line, kind", (
+        (b"0 STATUS\n", "STATUS"),
+        (b"1023 IMPORT r1\r\n", "IMPORT"),
+        (b"1 AT 5 DESCENDANTS 138875005 20200101\n", "DESCENDANTS"),
+        (b"1 AT 5\n", "other"),
+        (b"1 \n", "other"),
+        (b"1 status\n", "other"),
+        (b"1 \xff\n", "other")))
     def test_kinds_of_lines(self, line: bytes, kind: str) -> None:
         assert kind_of(line) == kind, line

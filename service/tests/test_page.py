@@ -32,15 +32,13 @@ class Chain(View):
         both = self.codes[place : place + 2]
         return [Association("m", "20200101", "1", "1", REPLACED_BY, *both)] if len(both) > 1 else []
 
-    async def concepts(
-        self, codes: Sequence[str], day: str, keep: bool = True
-    ) -> list[Concept | None]:
+    async def concepts(self, codes: Sequence[str], day: str,
+                       keep: bool = True) -> list[Concept | None]:
         last = self.codes[-1]
         return [Concept(one, "20200101", str(int(one == last)), "1", "1") for one in codes]
 
-    async def names(
-        self, codes: Iterable[str], day: str, language: Language = ANY
-    ) -> dict[str, str]:
+    async def names(self, codes: Iterable[str], day: str,
+                    language: Language = ANY) -> dict[str, str]:
         return {code: code for code in codes}
 
 
@@ -50,26 +48,17 @@ FOREIGN = re.compile(r"<script(?! src=\"page.js\" defer>)|<img|</textarea><s|onf
 
 class TestPage(Asked):
     def page(self, base: str = "/", **words: str) -> tuple[int, str]:
-        answer = self.service.gateway.send("GET", base + "?" + urlencode(words))
+        answer = self.gateway.send("GET", base + "?" + urlencode(words))
         return answer.status, answer.text
 
     def test_record(self) -> None:
         status, text = self.page(q=self.codes["wrist"], date="2018-01-01")
         assert status == 200
-        for part in (
-            "Fracture of wrist (disorder)",
-            "31 January 2021",
-            "Replaced by",
-            "Name changed: ",
-            "pin 3; RECEIPT 3: OK 3 5 20220731",
-            "was active",
-            "was inactive",
-            "Synonym withdrawn: <bdi>Broken wrist</bdi>",
-            "Synonym added: <bdi>Breach of wrist</bdi>",
-            "Synonym withdrawn: <bdi>Breach of wrist</bdi>",
-            "only then",
-            "not then",
-        ):
+        for part in ("Fracture of wrist (disorder)", "31 January 2021", "Replaced by",
+                     "Name changed: ", "pin 3; RECEIPT 3: OK 3 5 20220731", "was active",
+                     "was inactive", "Synonym withdrawn: <bdi>Broken wrist</bdi>",
+                     "Synonym added: <bdi>Breach of wrist</bdi>",
+                     "Synonym withdrawn: <bdi>Breach of wrist</bdi>", "only then", "not then"):
             assert part in text
         # What took its place was retired too, which leads one step further.
         assert self.codes["radius2"] in text
@@ -109,16 +98,13 @@ class TestPage(Asked):
             (part, part._replace(type="7"), ["Parent withdrawn: Eleven", "Site added: Eleven"]),
             (part, part._replace(group="1"), []),
             (part, part._replace(target="12", active="0"), ["Parent withdrawn: Eleven"]),
-            (part, part._replace(target="111"), ["Parent changed: 11 \u2192 111"]),
-        ]
+            (part, part._replace(target="111"), ["Parent changed: 11 \u2192 111"])]
         for before, after, told in cases:
             found = [re.sub(r"</?bdi>", "", one) for one in changes(before, after, names)]
             assert found == told, after
 
-    @pytest.mark.parametrize(
-        "date, status, release",
-        (("2021-01-30", "active", "20200731"), ("2021-01-31", "inactive", "20210131")),
-    )
+    @pytest.mark.parametrize("date, status, release", (
+        ("2021-01-30", "active", "20200731"), ("2021-01-31", "inactive", "20210131")))
     def test_day_before_and_day_of(self, date: str, status: str, release: str) -> None:
         text = self.page(q=self.codes["wrist"], date=date)[1]
         assert "on %s: %s. %s; pin 3;" % (date, status, version(release)) in text
@@ -132,9 +118,8 @@ class TestPage(Asked):
     def test_a_code_that_was_not_there(self) -> None:
         code = self.codes["radius"]
         assert self.report(q=code, date="2020-07-30") == (
-            "SNOMED CT %s on 2020-07-30: no such code then, its first row is of 2020-07-31. %s"
-            % (code, version("20200131"))
-        )
+            "SNOMED CT %s on 2020-07-30: no such code then, its first row is of 2020-07-31. %s" % (
+                code, version("20200131")))
 
     def test_days_before_the_store(self) -> None:
         """They aren't answered as if the store knew them."""
@@ -152,18 +137,16 @@ class TestPage(Asked):
         text = self.page(q=self.codes["radius"], date="1999-01-01", other="2020-07-30")[1]
         assert text.count(nothing) == 1 and "isn\u2019t in the store by <time" in text
         assert nothing in self.page(q="fracture", date="2015-01-30")[1]
-        assert self.service.gateway.send("GET", "/suggest?text=f&date=2015-01-30").text == "[]"
+        assert self.gateway.send("GET", "/suggest?text=f&date=2015-01-30").text == "[]"
 
     def test_the_address_that_stays(self) -> None:
         text = self.page(q=self.codes["wrist"], date="2018-01-01")[1]
         found = re.search(r'<a href="(pin/3/\?q=[^"]*)">This page for good, at pin 3</a>', text)
         assert found
-        assert (
-            found[1] == "pin/3/?q=%s&amp;date=2018-01-01&amp;other=2022-07-31" % self.codes["wrist"]
-        )
+        assert (found[1] == "pin/3/?q=%s&amp;date=2018-01-01&amp;other=2022-07-31" % self.codes[
+                    "wrist"])
         again = self.page("/pin/3/", q=self.codes["wrist"], date="2018-01-01", other="2022-07-31")[
-            1
-        ]
+            1]
         for part in ("Fracture of wrist (disorder)", "pin 3; RECEIPT 3: OK 3 5 20220731"):
             assert part in again
 
@@ -177,26 +160,17 @@ class TestPage(Asked):
 
     def test_values_and_definition(self) -> None:
         text = self.page(q=self.codes["drug"], date="2019-12-31")[1]
-        for part in (
-            "<strong>500</strong>",
-            "<strong>500.10</strong>",
-            "Fully defined",
-            "Has strength value withdrawn: <bdi>500</bdi>",
-            "Has strength value added: <bdi>500.10</bdi>",
-        ):
+        for part in ("<strong>500</strong>", "<strong>500.10</strong>", "Fully defined",
+                     "Has strength value withdrawn: <bdi>500</bdi>",
+                     "Has strength value added: <bdi>500.10</bdi>"):
             assert part in text
 
     def test_nothing_is_markup_that_came_as_text(self) -> None:
-        texts = [
-            self.page(q=self.codes["evil"])[1],
-            self.page(q="<script>alert(9)</script>")[1],
-            self.page(q='"><img src=x>', date="2018-01-01")[1],
-            self.page(q="Hostile")[1],
-            self.page(q="1", date='"><script>')[1],
-            self.page(q="<b>bold")[1],
-            self.page(q="{{content}} {content} {0.__class__}")[1],
-            self.service.gateway.send("GET", "/<script>alert(1)</script>").text,
-        ]
+        texts = [self.page(q=self.codes["evil"])[1], self.page(q="<script>alert(9)</script>")[1],
+                 self.page(q='"><img src=x>', date="2018-01-01")[1], self.page(q="Hostile")[1],
+                 self.page(q="1", date='"><script>')[1], self.page(q="<b>bold")[1],
+                 self.page(q="{{content}} {content} {0.__class__}")[1],
+                 self.gateway.send("GET", "/<script>alert(1)</script>").text]
         for text in texts:
             assert FOREIGN.findall(text) == []
             assert "\u202e" not in text
@@ -208,21 +182,17 @@ class TestPage(Asked):
         limb = self.codes["limb"]
         assert "isn\u2019t known to it" in self.page(q=limb, date="2025-01-01")[1]
         assert "isn\u2019t known to it" not in self.page(q=limb, date="2022-07-31")[1]
-        assert (
-            'href="pin/3/?q=%s&amp;date=2025-01-01&amp;' % limb
-            in self.page(q=limb, date="2025-01-01")[1]
-        )
+        assert ('href="pin/3/?q=%s&amp;date=2025-01-01&amp;' % limb in self.page(
+                    q=limb, date="2025-01-01")[1])
 
     def test_a_refusal_tells_its_pin(self) -> None:
-        send = self.service.gateway.send
+        send = self.gateway.send
         for target in ("/?q=1&date=2018-02-31", "/suggest?text=", "/suggest?text=a&date=x"):
             answer = send("GET", target)
             assert (answer.status, answer.headers.get("x-sctd-pin")) == (400, "3"), target
         headers = send("GET", "/pin/2/?q=1&date=x").headers
         assert (headers.get("x-sctd-pin"), headers.get("x-sctd-receipt")) == (
-            "2",
-            "RECEIPT 2: OK 2 18 20210131",
-        )
+            "2", "RECEIPT 2: OK 2 18 20210131")
 
     def test_one_day_is_one_column(self) -> None:
         wrist = self.codes["wrist"]
@@ -230,8 +200,7 @@ class TestPage(Asked):
             ({"date": "2018-01-01", "other": "2018-01-01"}, "then"),
             ({"date": "2022-07-31"}, "latest"),
             ({}, "latest"),
-            ({"date": "2023-01-01", "other": "2024-01-01"}, "latest"),
-        )
+            ({"date": "2023-01-01", "other": "2024-01-01"}, "latest"))
         for words, head in cases:
             text = self.page(q=wrist, **words)[1]
             assert text.count('<th scope="col">') == 1, words
@@ -256,10 +225,8 @@ class TestPage(Asked):
         said = "Only what differs: %d of %d rows" % (len(rows) - len(same), len(rows))
         assert re.search(r'<input type="checkbox" id="only"[^>]* checked>', text)
         assert '<label for="only">%s</label>' % said in text
-        for words in (
-            {"q": self.codes["wrist"], "date": "2018-01-01", "other": "2018-01-02"},
-            {"q": self.codes["radius"], "date": "2018-01-01"},
-        ):
+        for words in ({"q": self.codes["wrist"], "date": "2018-01-01", "other": "2018-01-02"},
+                      {"q": self.codes["radius"], "date": "2018-01-01"}):
             text = self.page(**words)[1]
             assert "<table" in text and 'id="only"' not in text, words
 
@@ -285,13 +252,9 @@ class TestPage(Asked):
         before, new = codes[:-1], codes
         named = told_first(new, before)
         assert len(named) == limits.TOLD_CONCEPTS and named[0] == codes[-1]
-        sides = [
-            Side("20200101", True, None, {code: code for code in told_first(own, other)})
-            for own, other in ((before, new), (new, before))
-        ]
-        first, second = (
-            side.some_of(own, side.link) for side, own in zip(sides, (before, new))
-        )
+        sides = [Side("20200101", True, None, {code: code for code in told_first(own, other)})
+                 for own, other in ((before, new), (new, before))]
+        first, second = (side.some_of(own, side.link) for side, own in zip(sides, (before, new)))
         assert [key for key in second if key not in first] == [codes[-1]]
         assert re.sub("<[^>]*>", "", first["more"]) == "and 8 more"
         assert sum(bool(shown) for shown in second.values()) == limits.TOLD_CONCEPTS + 1
@@ -308,13 +271,12 @@ class TestPage(Asked):
     def test_titles_name_what_is_shown(self) -> None:
         code = self.codes["wrist"]
         for words, title in (
-            ({"q": code}, "Fracture of wrist joint region (disorder) %s" % code),
-            ({"q": code, "date": "2014-01-01", "other": "2014-01-02"}, code),
-            ({"q": str(sctid(999_999, "00"))}, str(sctid(999_999, "00"))),
-            ({"q": "fract"}, "\u201cfract\u201d"),
-            ({"q": "</title><script>x"}, "\u201c&lt;/title&gt;&lt;script&gt;x\u201d"),
-            ({"q": code, "date": "x"}, "Refused"),
-        ):
+                ({"q": code}, "Fracture of wrist joint region (disorder) %s" % code),
+                ({"q": code, "date": "2014-01-01", "other": "2014-01-02"}, code),
+                ({"q": str(sctid(999_999, "00"))}, str(sctid(999_999, "00"))),
+                ({"q": "fract"}, "\u201cfract\u201d"),
+                ({"q": "</title><script>x"}, "\u201c&lt;/title&gt;&lt;script&gt;x\u201d"),
+                ({"q": code, "date": "x"}, "Refused")):
             text = self.page(**words)[1]
             assert "<title>%s \u00b7 The record as it stood</title>" % title in text, words
         assert "<title>The record as it stood</title>" in self.page()[1]
@@ -324,9 +286,8 @@ class TestPage(Asked):
         text = self.page(q=code, date="2018-01-01")[1]
         assert "<h2>The code <code>%s</code></h2>" % code in text
         assert self.report(q=code, date="2018-01-01") == (
-            "SNOMED CT %s on 2018-01-01: no such code then, nor on any day up to 2022-07-31. %s"
-            % (code, version("20170731"))
-        )
+            "SNOMED CT %s on 2018-01-01: no such code then, nor on any day up to 2022-07-31. %s" % (
+                code, version("20170731")))
 
     def test_a_refusal_keeps_the_form(self) -> None:
         words = {"q": '"1105007', "date": "2018-02-31", "other": "x<y"}
@@ -339,36 +300,26 @@ class TestPage(Asked):
         assert 'value="7"' in self.page("/pin/99/", q="7")[1]
         text = self.page("/changes", concept="123", **{"from": "2018-02-31"})[1]
         assert 'value="123"' in text and 'id="concept"' in text
-        assert 'value=""' in self.service.gateway.send("GET", "/?q=%ff").text
+        assert 'value=""' in self.gateway.send("GET", "/?q=%ff").text
 
     def test_search_and_suggest(self) -> None:
         assert "5 terms begin" in self.page(q="FRACTURE", date="2021-06-01")[1]
         assert "No term begins" in self.page(q="nothing such")[1]
-        said = self.service.gateway.send("GET", "/suggest?text=fract&date=2021-06-01")
+        said = self.gateway.send("GET", "/suggest?text=fract&date=2021-06-01")
         found = {one["code"]: one["active"] for one in json.loads(said.body)}
         assert (found[self.codes["wrist"]], found[self.codes["limb"]]) == (False, True)
 
     def test_wrong_words(self) -> None:
         for words, status in (
-            ({"q": "12345678"}, 200),
-            ({"q": "1", "date": "2018-02-31"}, 400),
-            ({"q": "x" * 5000}, 200),
-            ({"q": "a\nIMPORT d1"}, 200),
-            ({"q": "a\rb"}, 200),
-            ({"q": "1105007", "date": "x"}, 400),
-            ({"q": "1105007", "date": "20180101"}, 400),
-            ({"q": "1105007", "dat": "2018-01-01"}, 400),
-        ):
+                ({"q": "12345678"}, 200), ({"q": "1", "date": "2018-02-31"}, 400),
+                ({"q": "x" * 5000}, 200), ({"q": "a\nIMPORT d1"}, 200), ({"q": "a\rb"}, 200),
+                ({"q": "1105007", "date": "x"}, 400), ({"q": "1105007", "date": "20180101"}, 400),
+                ({"q": "1105007", "dat": "2018-01-01"}, 400)):
             assert self.page(**words)[0] == status, words
-        for target in (
-            "/?q=1&q=2",
-            "/?q=%ff",
-            "/suggest?text=",
-            "/suggest?text=a%0ab",
-            "/suggest?text=a&date=x",
-        ):
-            assert self.service.gateway.send("GET", target).status == 400, target
-        assert self.service.gateway.send("GET", "/health").json()["pin"] == 3
+        for target in ("/?q=1&q=2", "/?q=%ff", "/suggest?text=", "/suggest?text=a%0ab",
+                       "/suggest?text=a&date=x"):
+            assert self.gateway.send("GET", target).status == 400, target
+        assert self.gateway.send("GET", "/health").json()["pin"] == 3
 
     def test_labels_and_headings(self) -> None:
         text = self.page(q=self.codes["wrist"], date="2018-01-01")[1]

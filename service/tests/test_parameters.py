@@ -83,35 +83,20 @@ BASE = {
     "CodeSystem/$subsumes": "system codeA codeB",
     "ValueSet/$expand": "url count",
     "ValueSet/$validate-code": "url system code",
-    "ConceptMap/$translate": "system code",
-}
-INSTEAD = {
-    "coding": "code",
-    "codeableConcept": "code",
-    "codingA": "codeA",
-    "codingB": "codeB",
-    "valueSet": "url",
-    "inferSystem": "system",
-}
+    "ConceptMap/$translate": "system code"}
+INSTEAD = {"coding": "code", "codeableConcept": "code", "codingA": "codeA", "codingB": "codeB",
+           "valueSet": "url", "inferSystem": "system"}
 URLS = {
-    "CodeSystem/$validate-code": SCT,
-    "ConceptMap/$translate": SCT + "?fhir_cm=900000000000527005",
-}
-CELLS = [
-    (operation, name, way)
-    for name, row in parameters.ROWS.items()
-    for operation, way in row.items()
-]
+    "CodeSystem/$validate-code": SCT, "ConceptMap/$translate": SCT + "?fhir_cm=900000000000527005"}
+CELLS = [(operation, name, way) for name, row in parameters.ROWS.items()
+         for operation, way in row.items()]
 
 
 class TestTable:
     def test_names_are_those_of_fhir(self) -> None:
         for operation, names in R4.items():
-            ours = {
-                name
-                for name, row in parameters.ROWS.items()
-                if row[operation] in (parameters.HAS, parameters.OVER, parameters.REFUSED)
-            }
+            ours = {name for name, row in parameters.ROWS.items()
+                    if row[operation] in (parameters.HAS, parameters.OVER, parameters.REFUSED)}
             assert ours == set(names.split()), operation
 
     def test_each_row_has_its_columns(self) -> None:
@@ -120,11 +105,8 @@ class TestTable:
             assert len(row) == len(parameters.OPERATIONS) and ways.issuperset(row.values()), name
 
     def test_so_many_are_taken_or_passed_over(self) -> None:
-        ways = [
-            parameters.ROWS[name][operation]
-            for operation, names in R4.items()
-            for name in names.split()
-        ]
+        ways = [parameters.ROWS[name][operation] for operation, names in R4.items()
+                for name in names.split()]
         counts = {way: ways.count(way) for way in ("has", "over", "no")}
         assert counts == {"has": 59, "over": 7, "no": 4}
         assert counts["has"] + counts["over"] >= AT_LEAST

@@ -15,6 +15,7 @@ LINES = [
     for line in (
         "WATCH",
         "STATUS",
+        f"KNOWN {DAY}",
         f"{AT}DATES",
         f"{AT}RECEIPT [0-9]{{1,10}}",
         f"{AT}GET C {CODE} {DAY}",

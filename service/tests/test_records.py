@@ -28,10 +28,8 @@ MULTIPART = "multipart/form-data; boundary=xYz"
 
 def parts(*fields: tuple[str, bytes]) -> bytes:
     """A form in parts."""
-    told = b"".join(
-        b'--xYz\r\nContent-Disposition: form-data; %s\r\n\r\n%s\r\n' % (name.encode(), value)
-        for name, value in fields
-    )
+    told = b"".join(b'--xYz\r\nContent-Disposition: form-data; %s\r\n\r\n%s\r\n' % (
+                        name.encode(), value) for name, value in fields)
     return told + b"--xYz--\r\n"
 
 
@@ -61,10 +59,8 @@ class TestQuestions:
             else:
                 asyncio.run(ask(counts))
 
-    @pytest.mark.parametrize(
-        "path, most",
-        (("/records", limits.RECORDS_QUESTIONS), ("/changes", limits.CHANGES_QUESTIONS)),
-    )
+    @pytest.mark.parametrize("path, most", (
+        ("/records", limits.RECORDS_QUESTIONS), ("/changes", limits.CHANGES_QUESTIONS)))
     def test_which_pages_have_a_limit(self, path: str, most: int) -> None:
         session = Session(Pool(""), Hub(), 1)
         asyncio.run(answered(path, Edition("1"), View(session), {}, False))
@@ -92,21 +88,16 @@ class TestRecords(Asked):
 
     def test_each_line_on_its_day(self) -> None:
         wrist, limb = self.codes["wrist"], self.codes["limb"]
-        found = self.file(
-            "code,day,term",
-            "%s,2018-01-01,Fracture of wrist (disorder)" % wrist,
-            "%s,2018-08-01,Fracture of wrist (disorder)" % wrist,
-            "%s,2021-01-30,Wrist fracture" % wrist,
-            "%s,2021-01-31,Wrist fracture" % wrist,
-            "%s,20180101" % limb,
-        )
+        found = self.file("code,day,term", "%s,2018-01-01,Fracture of wrist (disorder)" % wrist,
+                          "%s,2018-08-01,Fracture of wrist (disorder)" % wrist,
+                          "%s,2021-01-30,Wrist fracture" % wrist,
+                          "%s,2021-01-31,Wrist fracture" % wrist, "%s,20180101" % limb)
         assert [row["line"] for row in found] == ["2", "3", "4", "5", "6"]
         assert [row["verdict"] for row in found] == ["right", "wrong", "right", "wrong", "right"]
         assert [row["status_then"] for row in found] == [*["active"] * 3, "inactive", "active"]
         assert [row["status_now"] for row in found] == [*["inactive"] * 4, "active"]
         assert [row["term_then"] for row in found] == [
-            "Fully specified name (en)", "", "Synonym (en)", "Synonym (en)", "",
-        ]
+            "Fully specified name (en)", "", "Synonym (en)", "Synonym (en)", ""]
         assert found[1]["name_then"] == "Fracture of wrist joint region (disorder)"
         assert "wasn\u2019t an active description" in found[1]["said"]
         assert found[3]["said"] == "The code was inactive then."
@@ -119,11 +110,10 @@ class TestRecords(Asked):
         said = self.judged("%s,2018-01-01" % codes["wrist"])["replaced_by"]
         assert said.split("; ") == [
             "Replaced by %s |Fracture of distal end of radius (disorder)|" % codes["radius"],
-            "Possibly equivalent to %s |Fracture of distal end of radius (disorder)|"
-            % codes["radius"],
+            "Possibly equivalent to %s |Fracture of distal end of radius (disorder)|" % codes[
+                "radius"],
             "Possibly equivalent to %s |Fracture of carpal bone (disorder)|" % codes["carpal"],
-            "Same as %s |Fracture of distal radius (disorder)|" % codes["radius2"],
-        ]
+            "Same as %s |Fracture of distal radius (disorder)|" % codes["radius2"]]
         assert self.judged("%s,2018-01-01" % codes["limb"])["replaced_by"] == ""
         text = self.page("%s,2018-01-01" % codes["wrist"])
         assert "<b>Same as</b>: <a href=" in text and "in the place of" in text
@@ -131,12 +121,9 @@ class TestRecords(Asked):
     def test_case_type_and_language_of_a_term(self) -> None:
         wrist = self.codes["wrist"]
         for text, use in (
-            ("WRIST fracture", "Synonym (en)"),
-            ("Handgelenksfraktur", "Synonym (de)"),
-            ("fracture of wrist (disorder)", "Fully specified name (en)"),
-            ("Wrist  fracture", ""),
-            ("Broken wrist", ""),
-        ):
+                ("WRIST fracture", "Synonym (en)"), ("Handgelenksfraktur", "Synonym (de)"),
+                ("fracture of wrist (disorder)", "Fully specified name (en)"),
+                ("Wrist  fracture", ""), ("Broken wrist", "")):
             assert self.judged("%s,2018-01-01,%s" % (wrist, text))["term_then"] == use, text
 
     def test_lines_that_are_not_judged(self) -> None:
@@ -201,22 +188,17 @@ class TestRecords(Asked):
         text = "\r\n".join(map(delimiter.join, lines))
         found = records_of(text)
         assert [(one.code, one.day, one.term) for one in found] == [
-            (lines[1][0], "20180101", lines[1][2])
-        ]
+            (lines[1][0], "20180101", lines[1][2])]
 
-    @pytest.mark.parametrize(
-        "text, found",
-        (
-            ("", []),
-            ("\r\n \n", []),
-            ("1;2018-01-01;\"a;b\"\"c\"", [("1", "", 'a;b"c')]),
-            ("Term,Date,Conceptid,x\na,2018-01-01,138875005,y", [("138875005", "20180101", "a")]),
-            ("x,code,day,term\ny,138875005,2018-01-01,a, b", [("138875005", "20180101", "a, b")]),
-            ("138875005,2018-01-01,a\u2028b,,", [("138875005", "20180101", "a\u2028b")]),
-            ("code,code,day\n138875005,2018-01-01", [("code", "", "day"),
-                                                     ("138875005", "20180101", "")]),
-        ),
-    )
+    @pytest.mark.parametrize("text, found", (
+        ("", []),
+        ("\r\n \n", []),
+        ("1;2018-01-01;\"a;b\"\"c\"", [("1", "", 'a;b"c')]),
+        ("Term,Date,Conceptid,x\na,2018-01-01,138875005,y", [("138875005", "20180101", "a")]),
+        ("x,code,day,term\ny,138875005,2018-01-01,a, b", [("138875005", "20180101", "a, b")]),
+        ("138875005,2018-01-01,a\u2028b,,", [("138875005", "20180101", "a\u2028b")]),
+        ("code,code,day\n138875005,2018-01-01",
+         [("code", "", "day"), ("138875005", "20180101", "")])))
     def test_lists(self, text: str, found: Sequence[tuple[str, str, str]]) -> None:
         assert [(one.code, one.day, one.term) for one in records_of(text)] == found
 
@@ -243,13 +225,12 @@ class TestRecords(Asked):
         pasted, file = 'name="list"', 'name="file"; filename="records.csv"'
         none = 'name="file"; filename=""'
         for body, kind in (
-            (parts((pasted, line), (none, b"")), MULTIPART),
-            (parts((pasted, b""), (file, b"\xef\xbb\xbf" + line)), MULTIPART),
-            (parts((file, line)), 'Multipart/Form-Data; charset=UTF-8; boundary="xYz"'),
-            (b"list=" + line.replace(b",", b"%2C"), FORM),
-            (line, "text/plain; charset=utf-8"),
-            (line.replace(b",", b"\t"), "text/tab-separated-values"),
-        ):
+                (parts((pasted, line), (none, b"")), MULTIPART),
+                (parts((pasted, b""), (file, b"\xef\xbb\xbf" + line)), MULTIPART),
+                (parts((file, line)), 'Multipart/Form-Data; charset=UTF-8; boundary="xYz"'),
+                (b"list=" + line.replace(b",", b"%2C"), FORM),
+                (line, "text/plain; charset=utf-8"),
+                (line.replace(b",", b"\t"), "text/tab-separated-values")):
             answer = self.send(body, kind)
             assert (answer.status, "<h2>1 record</h2>" in answer.text) == (200, True), body
         body = parts((pasted, line), ('name="format"', b"csv"))
@@ -261,26 +242,25 @@ class TestRecords(Asked):
         line, pasted = b"138875005,2018-01-01", 'name="list"'
         file = 'name="file"; filename="a"'
         for body, kind, status in (
-            (line, "application/json", 415),
-            (line, "", 415),
-            (line, "text/csv; charset=iso-8859-1", 415),
-            ("138875005,2018-01-01,\u00e4".encode("latin-1"), CSV, 400),
-            ("138875005".encode("utf-16"), CSV, 400),
-            (b"list=%ff", FORM, 400),
-            (b"list=1&list=2", FORM, 400),
-            (b"lists=1", FORM, 400),
-            (b"&".join([b"a=1"] * (limits.PARAMETERS + 1)), FORM, 400),
-            (parts((pasted, line), (file, line)), MULTIPART, 400),
-            (parts((pasted, line), (pasted, line)), MULTIPART, 400),
-            (parts(('name="other"', line)), MULTIPART, 400),
-            (parts(("x", line)), MULTIPART, 400),
-            (parts((pasted, line)), "multipart/form-data", 400),
-            (parts((pasted, line))[:-6], MULTIPART, 400),
-            (b"x" + parts((pasted, line)), MULTIPART, 400),
-            (b"", MULTIPART, 400),
-            (parts(*[(pasted, b"")] * (limits.PARAMETERS + 1)), MULTIPART, 400),
-            (parts((pasted, b"\xff")), MULTIPART, 400),
-        ):
+                (line, "application/json", 415),
+                (line, "", 415),
+                (line, "text/csv; charset=iso-8859-1", 415),
+                ("138875005,2018-01-01,\u00e4".encode("latin-1"), CSV, 400),
+                ("138875005".encode("utf-16"), CSV, 400),
+                (b"list=%ff", FORM, 400),
+                (b"list=1&list=2", FORM, 400),
+                (b"lists=1", FORM, 400),
+                (b"&".join([b"a=1"] * (limits.PARAMETERS + 1)), FORM, 400),
+                (parts((pasted, line), (file, line)), MULTIPART, 400),
+                (parts((pasted, line), (pasted, line)), MULTIPART, 400),
+                (parts(('name="other"', line)), MULTIPART, 400),
+                (parts(("x", line)), MULTIPART, 400),
+                (parts((pasted, line)), "multipart/form-data", 400),
+                (parts((pasted, line))[:-6], MULTIPART, 400),
+                (b"x" + parts((pasted, line)), MULTIPART, 400),
+                (b"", MULTIPART, 400),
+                (parts(*[(pasted, b"")] * (limits.PARAMETERS + 1)), MULTIPART, 400),
+                (parts((pasted, b"\xff")), MULTIPART, 400)):
             answer = self.send(body, kind)
             assert (answer.status, b"Refused: " in answer.body) == (status, True), (body, kind)
             assert answer.headers["content-type"].startswith("text/html")
@@ -291,21 +271,17 @@ class TestRecords(Asked):
 
     def test_a_refusal_keeps_the_list(self) -> None:
         line = b'138875005,2018-01-01,<b>bold</b>\n' * (limits.RECORDS + 1)
-        for answer in (
-            self.send(line),
-            self.send(parts(('name="list"', line)), MULTIPART, "/pin/2/records"),
-        ):
+        for answer in (self.send(line),
+                       self.send(parts(('name="list"', line)), MULTIPART, "/pin/2/records")):
             assert answer.status == 422
             assert answer.text.count("&lt;b&gt;bold&lt;/b&gt;") == limits.RECORDS + 1
             assert "<b>bold" not in answer.text
 
     def test_nothing_is_markup_or_a_formula_that_came_as_text(self) -> None:
-        lines = (
-            "<script>alert(1)</script>,</textarea><script>,<img src=x onerror=alert(1)>",
-            "138875005,2018-01-01,</textarea><script>alert(2)</script>",
-            "%s,2018-01-01,turned \u202e" % self.codes["evil"],
-            "=cmd|' /C calc'!A0,2018-01-01,=1+1",
-        )
+        lines = ("<script>alert(1)</script>,</textarea><script>,<img src=x onerror=alert(1)>",
+                 "138875005,2018-01-01,</textarea><script>alert(2)</script>",
+                 "%s,2018-01-01,turned \u202e" % self.codes["evil"],
+                 "=cmd|' /C calc'!A0,2018-01-01,=1+1")
         text = self.page(*lines)
         assert re.findall('<script(?! src="page.js" defer>)|<img|</textarea><s', text) == []
         table = text[text.index("<table") :]

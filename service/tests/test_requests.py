@@ -23,15 +23,9 @@ GET = b"GET /health HTTP/1.1\r\nHost: x\r\n"
 GET_PAGE = http.Request("GET", "/", {}, b"", lambda: False)
 CHUNKED = GET + b"Transfer-Encoding: chunked\r\n\r\n"
 CODING = b'{"name":"coding","valueCoding":{"system":"http://snomed.info/sct","code":"138875005"%s}'
-PARAMETERS = json.dumps(
-    {
-        "resourceType": "Parameters",
-        "parameter": [
-            {"name": "code", "valueCode": "138875005"},
-            {"name": "system", "valueUri": SCT},
-        ],
-    }
-).encode()
+PARAMETERS = json.dumps({"resourceType": "Parameters",
+                         "parameter": [{"name": "code", "valueCode": "138875005"},
+                                       {"name": "system", "valueUri": SCT}]}).encode()
 
 # How long an answer may have been on its way.
 LATE_SECONDS = 30
@@ -59,8 +53,7 @@ HEADS = (
     (GET + b"A\xc3: b\r\n\r\n", 400),
     (GET + b"A : b\r\n\r\n", 400),
     (GET + b": b\r\n\r\n", 400),
-    (GET + b"A\r\n\r\n", 400),
-)
+    (GET + b"A\r\n\r\n", 400))
 # Heads that don't say in one way where the request ends, or what it is for.
 ENDS = (
     (GET + b"Content-Length : 3\r\n\r\nabc", 400),
@@ -75,10 +68,7 @@ ENDS = (
     (GET + b"Content-Length: 65537\r\n\r\n", 413),
     (GET + b"Transfer-Encoding: gzip, chunked\r\n\r\n0\r\n\r\n", 501),
     (GET + b"Transfer-Encoding: identity\r\n\r\n", 501),
-    (
-        GET + b"Transfer-Encoding: chunked\r\nTransfer-Encoding: chunked\r\n\r\n0\r\n\r\n",
-        400,
-    ),
+    (GET + b"Transfer-Encoding: chunked\r\nTransfer-Encoding: chunked\r\n\r\n0\r\n\r\n", 400),
     (GET + b"Transfer-Encoding: chunked\r\nContent-Length: 5\r\n\r\n0\r\n\r\n", 400),
     (GET + b"Content-Length: 5\r\nTransfer-Encoding: chunked\r\n\r\n0\r\n\r\n", 400),
     (b"GET /health HTTP/1.0\r\nTransfer-Encoding: chunked\r\n\r\n0\r\n\r\n", 400),
@@ -93,8 +83,7 @@ ENDS = (
     (b"GET /\xc3\xa4 HTTP/1.1\r\nHost: x\r\n\r\n", 400),
     (b"CONNECT x:80 HTTP/1.1\r\nHost: x\r\n\r\n", 400),
     (b"POST /fhir/CodeSystem/$lookup HTTP/1.1\r\nHost: x\r\n\r\n", 411),
-    (b"\x16\x03\x01\x02\x00\x01\x00\x01\xfc\x03\x03\r\n\r\n", 400),
-)
+    (b"\x16\x03\x01\x02\x00\x01\x00\x01\xfc\x03\x03\r\n\r\n", 400))
 
 
 class NoRoom(io.StringIO):
@@ -146,10 +135,8 @@ class TestTurns:
         assert (await app.answer(ended)).status == 503
         for _ in range(limits.WALKS):
             await app.walks.acquire()
-        left, stays = (
-            asyncio.create_task(app.answer(GET_PAGE._replace(has_left=has_left)))
-            for has_left in (lambda: True, lambda: False)
-        )
+        left, stays = (asyncio.create_task(app.answer(GET_PAGE._replace(has_left=has_left)))
+                       for has_left in (lambda: True, lambda: False))
         await asyncio.sleep(0.1)
         app.walks.release()
         with pytest.raises(http.ClientLeftError):
@@ -172,13 +159,10 @@ class TestTurns:
 
 
 class TestRequests(Asked):
-    @pytest.mark.parametrize(
-        "one", ("verison", "system-version", "<b>", "x" * 3000, "Code")
-    )
+    @pytest.mark.parametrize("one", ("verison", "system-version", "<b>", "x" * 3000, "Code"))
     def test_unknown_parameters(self, one: str) -> None:
         status, said = self.gateway.fhir(
-            "CodeSystem/$lookup", system=SCT, code="138875005", **{one: "1"}
-        )
+            "CodeSystem/$lookup", system=SCT, code="138875005", **{one: "1"})
         assert (status, issue(said)) == (400, "not-supported"), one
 
     def test_parameters_that_change_no_answer(self) -> None:
@@ -188,26 +172,20 @@ class TestRequests(Asked):
         warnings = told(answer.json(), "warning")
         assert (answer.status, len(warnings)) == (200, 1)
         assert "_summary is passed over" in warnings[0]
-        for wish, status in (
-            ("handling=strict", 400),
-            ('return=minimal; handling = "strict"', 400),
-            ("handling=lenient", 200),
-            ("handling=stricter", 200),
-        ):
+        for wish, status in (("handling=strict", 400), ('return=minimal; handling = "strict"', 400),
+                             ("handling=lenient", 200), ("handling=stricter", 200)):
             answer = self.gateway.send("GET", target, headers={"Prefer": wish})
             assert answer.status == status, wish
             assert status == 200 or issue(answer.json()) == "not-supported"
 
     def test_twice(self) -> None:
         status, _ = self.gateway.fhir(
-            "CodeSystem/$lookup", system=SCT, code=["138875005", "138875005"]
-        )
+            "CodeSystem/$lookup", system=SCT, code=["138875005", "138875005"])
         assert status == 400
 
     def test_too_many_parameters(self) -> None:
         answer = self.gateway.send(
-            "GET", LOOKUP + "?" + "&".join("property=a%d" % n for n in range(61))
-        )
+            "GET", LOOKUP + "?" + "&".join("property=a%d" % n for n in range(61)))
         assert answer.status == 400
         part = {"name": "property", "valueString": "a"}
         assert self.gateway.posted("CodeSystem/$lookup", *[part] * 61)[0] == 400
@@ -217,47 +195,20 @@ class TestRequests(Asked):
             assert self.gateway.send("GET", LOOKUP + "?code=" + text).status == 400, text
 
     def test_paths(self) -> None:
-        for path in (
-            "Patient/1",
-            "CodeSystem/$nothing",
-            "..%2f..%2fetc/passwd",
-            "",
-            "CodeSystem/$lookup/",
-            "CodeSystem/other",
-            "CodeSystem/sct.",
-            "CodeSystem/sct.20190132",
-            "CodeSystem/sct.20190130",
-            "CodeSystem/sct/lookup",
-            "CodeSystem/sct/$nothing",
-            "CodeSystem/sct/$lookup/x",
-            "CodeSystem//$lookup",
-            "ValueSet/isa-1105008",
-            "ValueSet/isa-",
-            "ValueSet/isa-1105007.2019",
-            "ConceptMap/map-900000000000207008",
-            "metadata/x",
-        ):
+        for path in ("Patient/1", "CodeSystem/$nothing", "..%2f..%2fetc/passwd", "",
+                     "CodeSystem/$lookup/", "CodeSystem/other", "CodeSystem/sct.",
+                     "CodeSystem/sct.20190132", "CodeSystem/sct.20190130", "CodeSystem/sct/lookup",
+                     "CodeSystem/sct/$nothing", "CodeSystem/sct/$lookup/x", "CodeSystem//$lookup",
+                     "ValueSet/isa-1105008", "ValueSet/isa-", "ValueSet/isa-1105007.2019",
+                     "ConceptMap/map-900000000000207008", "metadata/x"):
             assert self.gateway.fhir(path)[0] == 404, path
-        for target in (
-            "/nothing",
-            "//",
-            "/page.py",
-            "/pin/x/",
-            "/pin/1",
-            "/pin/99999999999/",
-            "/pin/%C2%B2/",
-            "/page.css/../../app.py",
-            "/fhir%0a",
-            "/pin%2f1/health",
-            "/pin/1%2Fhealth",
-            "/%70in/1/health",
-            "/fhir%2Fmetadata",
-        ):
+        for target in ("/nothing", "//", "/page.py", "/pin/x/", "/pin/1", "/pin/99999999999/",
+                       "/pin/%C2%B2/", "/page.css/../../app.py", "/fhir%0a", "/pin%2f1/health",
+                       "/pin/1%2Fhealth", "/%70in/1/health", "/fhir%2Fmetadata"):
             assert self.gateway.send("GET", target).status == 404, target
 
-    @pytest.mark.parametrize(
-        "address", (b"http://x/pin/1/health", b"HTTPS://user@x:80/pin/1/health")
-    )
+    @pytest.mark.parametrize("address", (
+        b"http://x/pin/1/health", b"HTTPS://user@x:80/pin/1/health"))
     def test_addresses_with_a_host(self, address: bytes) -> None:
         """What stands before the path is passed over, as HTTP has it."""
         end = b" HTTP/1.1\r\nHost: x\r\nConnection: close\r\n\r\n"
@@ -274,27 +225,15 @@ class TestRequests(Asked):
             assert (answer.status, answer.headers["allow"]) == (405, "GET, HEAD"), target
 
     def test_formats(self) -> None:
+        for kind, status in (("application/fhir+xml", 406), ("text/html", 406), ("*/*", 200),
+                             ("text/json", 200), ("text/html, application/fhir+json;q=0.9", 200),
+                             ("application/fhir+json; q=0", 406), ("text/html, */*;q=0.000", 406),
+                             ("application/fhir+json;q=0.001", 200)):
+            answer = self.gateway.send("GET", "/fhir/metadata", headers={"Accept": kind})
+            assert answer.status == status, kind
         for kind, status in (
-            ("application/fhir+xml", 406),
-            ("text/html", 406),
-            ("*/*", 200),
-            ("text/json", 200),
-            ("text/html, application/fhir+json;q=0.9", 200),
-            ("application/fhir+json; q=0", 406),
-            ("text/html, */*;q=0.000", 406),
-            ("application/fhir+json;q=0.001", 200),
-        ):
-            assert (
-                self.gateway.send("GET", "/fhir/metadata", headers={"Accept": kind}).status
-                == status
-            )
-        for kind, status in (
-            ("xml", 406),
-            ("application/fhir+xml", 406),
-            ("application/fhir+json", 200),
-            ("application/fhir json", 200),
-            ("json", 200),
-        ):
+                ("xml", 406), ("application/fhir+xml", 406), ("application/fhir+json", 200),
+                ("application/fhir json", 200), ("json", 200)):
             assert self.gateway.fhir("metadata", _format=kind)[0] == status, kind
         answer = self.gateway.send("GET", "/fhir/metadata?_format=xml")
         assert issue(answer.json()) == "not-supported"
@@ -303,54 +242,45 @@ class TestRequests(Asked):
     def test_bodies(self) -> None:
         head = b'{"resourceType":"Parameters","parameter":['
         for body, status in (
-            (b"", 400),
-            (b"{", 400),
-            (b"[]", 400),
-            (b"null", 400),
-            (b"[" * 60_000, 400),
-            (b"\xff", 400),
-            (b"1" * 60_000, 400),
-            (PARAMETERS.decode().encode("utf-16"), 400),
-            (b'"Parameters"', 400),
-            (b"\xef\xbb\xbf" + PARAMETERS, 400),
-            (head + b"1]}", 400),
-            (b'{"resourceType":"Patient"}', 400),
-            (b'{"resourceType":"Parameters","parameter":7}', 400),
-            (head + b'{"valueCode":"1"}]}', 400),
-            (head + b'{"name":"code","valueCode":{"a":1}}]}', 400),
-            (head + b'{"name":"code","valueCode":"1","valueString":"2"}]}', 400),
-            (head + b'{"name":"code","name":"system","valueCode":"1"}]}', 400),
-            (head + b'{"name":"coding","valueCoding":7}]}', 400),
-            (head + CODING % b"" + b"}]}", 200),
-            (head + CODING % b"" + b'},{"name":"date","valueDate":null}]}', 400),
-            (head + CODING % b"" + b'},{"name":"version","valueString":null}]}', 400),
-            (head + CODING % b',"version":""' + b"}]}", 400),
-            (head + CODING % b',"display":""' + b"}]}", 400),
-            (head + CODING % b',"display":null' + b"}]}", 400),
-            (head + b'{"name":"_format","valueCode":"json"}]}', 400),
-            (head + CODING % b"" + b'}],"x":NaN}', 400),
-            (head + CODING % b"" + b'}],"x":-Infinity}', 400),
-            (head + CODING % b"" + b'}],"x":1}', 200),
-            (
-                head
-                + b'{"name":"code","valueCode":"\\ud800"},{"name":"system","valueUri":"'
-                + SCT.encode()
-                + b'"}]}',
-                400,
-            ),
-            (PARAMETERS, 200),
-        ):
+                (b"", 400),
+                (b"{", 400),
+                (b"[]", 400),
+                (b"null", 400),
+                (b"[" * 60_000, 400),
+                (b"\xff", 400),
+                (b"1" * 60_000, 400),
+                (PARAMETERS.decode().encode("utf-16"), 400),
+                (b'"Parameters"', 400),
+                (b"\xef\xbb\xbf" + PARAMETERS, 400),
+                (head + b"1]}", 400),
+                (b'{"resourceType":"Patient"}', 400),
+                (b'{"resourceType":"Parameters","parameter":7}', 400),
+                (head + b'{"valueCode":"1"}]}', 400),
+                (head + b'{"name":"code","valueCode":{"a":1}}]}', 400),
+                (head + b'{"name":"code","valueCode":"1","valueString":"2"}]}', 400),
+                (head + b'{"name":"code","name":"system","valueCode":"1"}]}', 400),
+                (head + b'{"name":"coding","valueCoding":7}]}', 400),
+                (head + CODING % b"" + b"}]}", 200),
+                (head + CODING % b"" + b'},{"name":"date","valueDate":null}]}', 400),
+                (head + CODING % b"" + b'},{"name":"version","valueString":null}]}', 400),
+                (head + CODING % b',"version":""' + b"}]}", 400),
+                (head + CODING % b',"display":""' + b"}]}", 400),
+                (head + CODING % b',"display":null' + b"}]}", 400),
+                (head + b'{"name":"_format","valueCode":"json"}]}', 400),
+                (head + CODING % b"" + b'}],"x":NaN}', 400),
+                (head + CODING % b"" + b'}],"x":-Infinity}', 400),
+                (head + CODING % b"" + b'}],"x":1}', 200),
+                (head + b'{"name":"code","valueCode":"\\ud800"},{"name":"system","valueUri":"'
+                 + SCT.encode() + b'"}]}',
+                 400),
+                (PARAMETERS, 200)):
             answer = self.gateway.send("POST", LOOKUP, body, {"Content-Type": FHIR_JSON})
             assert answer.status == status, body[:80]
 
     def test_kinds_of_bodies(self) -> None:
         for kind, status in (
-            ("text/xml", 415),
-            ("application/x-www-form-urlencoded", 415),
-            ("", 415),
-            ("application/json; charset=utf-8", 200),
-            ("Application/FHIR+JSON", 200),
-        ):
+                ("text/xml", 415), ("application/x-www-form-urlencoded", 415), ("", 415),
+                ("application/json; charset=utf-8", 200), ("Application/FHIR+JSON", 200)):
             answer = self.gateway.send("POST", LOOKUP, PARAMETERS, {"Content-Type": kind})
             assert answer.status == status, kind
         packed = {"Content-Type": FHIR_JSON, "Content-Encoding": "gzip"}
@@ -358,8 +288,7 @@ class TestRequests(Asked):
 
     def test_body_of_a_megabyte(self) -> None:
         answer = self.gateway.send(
-            "POST", LOOKUP, b" " * (1 << 20), {"Content-Type": "application/json"}
-        )
+            "POST", LOOKUP, b" " * (1 << 20), {"Content-Type": "application/json"})
         assert (answer.status, issue(answer.json())) == (413, "too-long")
         assert self.gateway.send("GET", "/health").status == 200
 
@@ -374,38 +303,27 @@ class TestRequests(Asked):
         assert b"Connection: close" in got
         assert got.count(b"\r\nContent-Type: ") == 1
 
-    @pytest.mark.parametrize(
-        "body, status",
-        (
-            (b"-1\r\n\r\n", 400),
-            (b"\r\n\r\n", 400),
-            (b"g\r\n\r\n", 400),
-            (b"0x1\r\na\r\n0\r\n\r\n", 400),
-            (b"2\r\nabc\r\n0\r\n\r\n", 400),
-            (b"2\nab\n0\n\n\r\n\r\n", 400),
-            (b"2\r\nabxx0\r\n\r\n", 400),
-            (b"0\r\nTrailer: x\r\n\r\n", 400),
-            (b"fffffffffffffffffffffff\r\n\r\n", 400),
-            (b"1\r\na\r\n" * 1001 + b"0\r\n\r\n", 413),
-            (b"10001\r\n" + b"a" * 0x10001 + b"\r\n0\r\n\r\n", 413),
-        ),
-    )
+    @pytest.mark.parametrize("body, status", (
+        (b"-1\r\n\r\n", 400),
+        (b"\r\n\r\n", 400),
+        (b"g\r\n\r\n", 400),
+        (b"0x1\r\na\r\n0\r\n\r\n", 400),
+        (b"2\r\nabc\r\n0\r\n\r\n", 400),
+        (b"2\nab\n0\n\n\r\n\r\n", 400),
+        (b"2\r\nabxx0\r\n\r\n", 400),
+        (b"0\r\nTrailer: x\r\n\r\n", 400),
+        (b"fffffffffffffffffffffff\r\n\r\n", 400),
+        (b"1\r\na\r\n" * 1001 + b"0\r\n\r\n", 413),
+        (b"10001\r\n" + b"a" * 0x10001 + b"\r\n0\r\n\r\n", 413)))
     def test_chunks_that_are_refused(self, body: bytes, status: int) -> None:
         self.refused(CHUNKED + body, status)
 
     def test_chunks(self) -> None:
         parts = b"".join(
             b"%x\r\n%s\r\n" % (len(PARAMETERS[at : at + 50]), PARAMETERS[at : at + 50])
-            for at in range(0, len(PARAMETERS), 50)
-        )
-        got = self.gateway.raw(
-            POST
-            + b"Transfer-Encoding: chunked\r\n\r\n"
-            + parts
-            + b"0\r\n\r\n"
-            + GET
-            + b"Connection: close\r\n\r\n"
-        )
+            for at in range(0, len(PARAMETERS), 50))
+        got = self.gateway.raw(POST + b"Transfer-Encoding: chunked\r\n\r\n" + parts + b"0\r\n\r\n"
+                               + GET + b"Connection: close\r\n\r\n")
         assert got.count(b"HTTP/1.1 200") == 2
 
     def test_two_requests_at_once_on_one_connection(self) -> None:
@@ -447,29 +365,16 @@ class TestRequests(Asked):
         assert got.startswith(b"HTTP/1.1 413 ") and got.endswith(b"\r\n\r\n"), got
 
     def test_expect_100(self) -> None:
-        head = (
-            POST
-            + b"Expect: 100-continue\r\nConnection: close\r\nContent-Length: %d\r\n\r\n"
-            % len(PARAMETERS)
-        )
+        end = b"Expect: 100-continue\r\nConnection: close\r\nContent-Length: %d\r\n\r\n"
+        head = POST + end % len(PARAMETERS)
         with self.gateway.connect() as connection:
             connection.sendall(head)
             assert connection.recv(1 << 16) == b"HTTP/1.1 100 Continue\r\n\r\n"
             connection.sendall(PARAMETERS)
             assert connection.recv(1 << 16).startswith(b"HTTP/1.1 200 OK\r\n")
 
-    @pytest.mark.parametrize(
-        "target",
-        (
-            "/",
-            "/fhir/metadata",
-            "/page.js",
-            "/page.css",
-            "/nothing",
-            "/health",
-            "/fhir/x",
-        ),
-    )
+    @pytest.mark.parametrize("target", (
+        "/", "/fhir/metadata", "/page.js", "/page.css", "/nothing", "/health", "/fhir/x"))
     def test_safe_headers(self, target: str) -> None:
         headers = self.gateway.send("GET", target).headers
         assert "default-src 'none'" in headers["content-security-policy"]
@@ -478,16 +383,12 @@ class TestRequests(Asked):
         lasting = "no-cache" if target == "/fhir/metadata" else "no-store"
         assert headers["cache-control"] == "private, " + lasting
 
-    @pytest.mark.parametrize(
-        "sent, status",
-        (
-            (GET + b"Connection: close\r\n\r\n", 200),
-            (b"GET /nothing HTTP/1.0\r\n\r\n", 404),
-            (b"POST /health HTTP/1.0\r\nContent-Length: 0\r\n\r\n", 405),
-            (b"nonsense\r\n\r\n", 400),
-            (GET + b"A: " + b"b" * 20_000 + b"\r\n\r\n", 431),
-        ),
-    )
+    @pytest.mark.parametrize("sent, status", (
+        (GET + b"Connection: close\r\n\r\n", 200),
+        (b"GET /nothing HTTP/1.0\r\n\r\n", 404),
+        (b"POST /health HTTP/1.0\r\nContent-Length: 0\r\n\r\n", 405),
+        (b"nonsense\r\n\r\n", 400),
+        (GET + b"A: " + b"b" * 20_000 + b"\r\n\r\n", 431)))
     def test_each_answer_has_its_date(self, sent: bytes, status: int) -> None:
         head = self.gateway.raw(sent).partition(b"\r\n\r\n")[0].decode()
         dates = re.findall(r"^Date: (.*)\r$", head, re.M)
@@ -500,11 +401,7 @@ class TestRequests(Asked):
     def test_head_is_answered_like_get(self) -> None:
         get, head = (self.gateway.send(method, "/fhir/metadata") for method in ("GET", "HEAD"))
         assert (head.status, head.headers["content-length"], head.body) == (
-            200,
-            str(len(get.body)),
-            b"",
-        )
+            200, str(len(get.body)), b"")
         assert told(
             self.gateway.posted("CodeSystem/$lookup", *json.loads(PARAMETERS)["parameter"])[1],
-            "name",
-        ) == ["SNOMED CT"]
+            "name") == ["SNOMED CT"]

@@ -27,19 +27,11 @@ CASES = (
     (b"OK 1 6 1 -\nEND 0\nOK 1 x y\n", AT_ONCE),
     (b"OK 1 6 1 -\nROW 1\nEND 1\nOK 1 6 20200131\n", AT_ONCE),
     (b"ROW " + b"x" * (3 << 20), AT_ONCE),
-    (b"OK 1 6 1 -\n", SILENT),
-)
+    (b"OK 1 6 1 -\n", SILENT))
 # What it says to WATCH, where no number of imports comes.
-WATCH_CASES = (
-    (b"", SILENT),
-    (b"nonsense\n", AT_ONCE),
-    (b"OK\n", AT_ONCE),
-    (b"OK 1 6 1 -\n", AT_ONCE),
-    (b"END 1\n", AT_ONCE),
-    (b"\xff\xfe\n", AT_ONCE),
-    (b"ERR 41 Session\n", AT_ONCE),
-    (b"OK " + b"1" * (3 << 20), AT_ONCE),
-)
+WATCH_CASES = ((b"", SILENT), (b"nonsense\n", AT_ONCE), (b"OK\n", AT_ONCE),
+               (b"OK 1 6 1 -\n", AT_ONCE), (b"END 1\n", AT_ONCE), (b"\xff\xfe\n", AT_ONCE),
+               (b"ERR 41 Session\n", AT_ONCE), (b"OK " + b"1" * (3 << 20), AT_ONCE))
 
 
 class FalseHub:

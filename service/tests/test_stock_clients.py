@@ -80,8 +80,7 @@ class TestHapi(Client):
         "Accept": JSON_FIRST,
         "Accept-Charset": "utf-8",
         "Accept-Encoding": "gzip;q=0",
-        "User-Agent": "HAPI-FHIR/7.4.0 (FHIR Client; FHIR 4.0.1/R4; apache)",
-    }
+        "User-Agent": "HAPI-FHIR/7.4.0 (FHIR Client; FHIR 4.0.1/R4; apache)"}
 
     @pytest.mark.parametrize("accepted", (JSON_FIRST, ANY_FORM))
     def test_the_server_is_looked_at(self, accepted: str) -> None:
@@ -95,11 +94,8 @@ class TestHapi(Client):
         """The first resource of a search by an address, if there is any."""
         isa = SCT + "?fhir_vs=isa/" + self.codes["limb"]
         for kind, url, is_here in (
-            ("CodeSystem", SCT, True),
-            ("CodeSystem", LOINC, False),
-            ("ValueSet", isa, True),
-            ("ValueSet", "http://example.org/fhir/ValueSet/x", False),
-        ):
+                ("CodeSystem", SCT, True), ("CodeSystem", LOINC, False), ("ValueSet", isa, True),
+                ("ValueSet", "http://example.org/fhir/ValueSet/x", False)):
             asked = urlencode({"url": url, "_summary": summary})
             found = self.get("%s?%s" % (kind, asked)).get("entry", [])
             first = [(one["resource"]["resourceType"], one["resource"]["url"]) for one in found[:1]]
@@ -108,12 +104,9 @@ class TestHapi(Client):
     def test_a_code_and_its_display(self) -> None:
         files = self.snapshot()
         for name, display, is_valid in (
-            ("limb", "", True),
-            ("limb", self.name_of("limb", files), True),
-            ("limb", "Fracture of upper limb (disorder)", False),
-            ("wrist", "Wrist fracture", True),
-            ("none", "", False),
-        ):
+                ("limb", "", True), ("limb", self.name_of("limb", files), True),
+                ("limb", "Fracture of upper limb (disorder)", False),
+                ("wrist", "Wrist fracture", True), ("none", "", False)):
             code = self.codes.get(name, "999")
             parts = [uri("url", SCT), text("code", code)]
             parts += [text("display", display)] if display else []
@@ -126,14 +119,10 @@ class TestHapi(Client):
         """By its address, or by itself if it has none."""
         within = self.within("limb")
         filter_ = {"property": "concept", "op": "is-a", "value": self.codes["limb"]}
-        own = {
-            "resourceType": "ValueSet",
-            "compose": {"include": [{"system": SCT, "filter": [filter_]}]},
-        }
-        for named in (
-            uri("url", SCT + "?fhir_vs=isa/" + self.codes["limb"]),
-            {"name": "valueSet", "resource": own},
-        ):
+        own = {"resourceType": "ValueSet",
+               "compose": {"include": [{"system": SCT, "filter": [filter_]}]}}
+        for named in (uri("url", SCT + "?fhir_vs=isa/" + self.codes["limb"]),
+                      {"name": "valueSet", "resource": own}):
             for name in ("limb", "carpal", "injury", "wrist"):
                 code = self.codes[name]
                 parts = [named, text("code", code), uri("system", SCT)]
@@ -178,12 +167,9 @@ class TestPublisher(Client):
     # Of each request.
     always: tuple[Json, ...] = (
         text("profile-url", "http://hl7.org/fhir/ExpansionProfile/dc8fd4bc"),
-        flag("excludeNested", False),
-        flag("includeDesignations"),
-        uri("system-version", LOINC + "|2.77"),
-        {"name": "cache-id", "valueId": "4d3a"},
-        {"name": "tx-resource", "resource": {"resourceType": "CodeSystem", "url": "urn:x"}},
-    )
+        flag("excludeNested", False), flag("includeDesignations"),
+        uri("system-version", LOINC + "|2.77"), {"name": "cache-id", "valueId": "4d3a"},
+        {"name": "tx-resource", "resource": {"resourceType": "CodeSystem", "url": "urn:x"}})
     guide_url = "http://example.org/fhir/ValueSet/limbs"
 
     def guide(self, *include: Json, **compose: Any) -> Json:
@@ -199,9 +185,7 @@ class TestPublisher(Client):
                 "version": "1.0.0",
                 "status": "draft",
                 "experimental": False,
-                "compose": {"include": list(include), **compose},
-            },
-        }
+                "compose": {"include": list(include), **compose}}}
 
     def below(self, name: str) -> Json:
         one = {"property": "concept", "op": "is-a", "value": self.codes[name]}
@@ -224,11 +208,8 @@ class TestPublisher(Client):
         options = (flag("default-to-latest-version"), flag("diagnostics"))
         right = self.name_of("limb", self.snapshot())
         for display, lenient, is_valid, is_told in (
-            (right, False, True, False),
-            (right, True, True, False),
-            ("Broken arm", False, False, True),
-            ("Broken arm", True, True, True),
-        ):
+                (right, False, True, False), (right, True, True, False),
+                ("Broken arm", False, False, True), ("Broken arm", True, True, True)):
             parts = [{"name": "coding", "valueCoding": self.coding("limb", display)}, *options]
             parts += [text("displayLanguage", "en, en-US")]
             parts += [flag("lenient-display-validation")] * lenient
@@ -297,19 +278,16 @@ class TestPublisher(Client):
         listed = {"system": SCT, "concept": [{"code": self.codes["radius"]}]}
         of_limbs: Json = {"valueSet": [self.address("limbs") + bar]}
         of_both: Json = {"valueSet": [self.address("both")]}
-        along = (
-            self.sent_along("limbs", self.below("limb"), inactive=False),
-            self.sent_along("both", of_limbs, self.below("drug")),
-            self.sent_along("unused", {"system": LOINC, "concept": [{"code": "1-8"}]}),
-            *self.always,
-        )
+        along = (self.sent_along("limbs", self.below("limb"), inactive=False),
+                 self.sent_along("both", of_limbs, self.below("drug")),
+                 self.sent_along("unused", {"system": LOINC, "concept": [{"code": "1-8"}]}),
+                 *self.always)
         cases: tuple[tuple[list[Json], list[Json], set[str]], ...] = (
             ([of_limbs], [], limbs & active),
             ([of_both], [], limbs & active | drugs),
             ([of_both, listed], [], limbs & active | drugs | {self.codes["radius"]}),
             ([{**of_both, **self.below("injury")}], [], limbs & active),
-            ([self.below("limb")], [of_limbs], limbs - active),
-        )
+            ([self.below("limb")], [of_limbs], limbs - active))
         for include, exclude, wanted in cases:
             guide = self.guide(*include, **({"exclude": exclude} if exclude else {}))
             said = self.post("/ValueSet/$expand", guide, *along)["expansion"]
@@ -329,9 +307,7 @@ class TestPublisher(Client):
         for version_, status in (("1.0.0", 200), ("2.0.0", 400)):
             own = text("valueSetVersion", version_)
             for parts in (
-                [uri("url", self.address("limbs")), along],
-                [self.guide(self.below("limb"))],
-            ):
+                    [uri("url", self.address("limbs")), along], [self.guide(self.below("limb"))]):
                 said = self.post("/ValueSet/$expand", *parts, own, status=status)
                 found = {one["code"] for one in said.get("expansion", {}).get("contains", [])}
                 assert found == (limbs if status == 200 else set()), parts
@@ -350,15 +326,9 @@ class TestPublisher(Client):
         limb, injury = self.coding("carpal"), self.coding("injury")
         of_loinc, of_icd = ({"system": one, "code": "1-8"} for one in (LOINC, ICD_10_SYSTEM))
         for codings, wanted in (
-            ([limb], True),
-            ([injury], False),
-            ([of_loinc, limb], True),
-            ([of_icd, injury], False),
-            ([of_icd], False),
-            ([of_loinc, injury], None),
-            ([injury, of_loinc], None),
-            ([of_loinc], None),
-        ):
+                ([limb], True), ([injury], False), ([of_loinc, limb], True),
+                ([of_icd, injury], False), ([of_icd], False), ([of_loinc, injury], None),
+                ([injury, of_loinc], None), ([of_loinc], None)):
             concept = {"name": "codeableConcept", "valueCodeableConcept": {"coding": codings}}
             status = 404 if wanted is None else 200
             said = self.post("/ValueSet/$validate-code", concept, guide, along, status=status)
@@ -377,11 +347,8 @@ class TestPublisher(Client):
         along = self.sent_along("mixed", self.below("limb"), tests, inactive=inactive)
         mixed: Json = {"valueSet": [self.address("mixed")]}
         code = {"name": "coding", "valueCoding": {"system": LOINC, "code": "1-8"}}
-        for include, is_known in (
-            (mixed, False),
-            ({**mixed, **tests}, False),
-            ({**mixed, **self.below("injury")}, True),
-        ):
+        for include, is_known in ((mixed, False), ({**mixed, **tests}, False),
+                                  ({**mixed, **self.below("injury")}, True)):
             guide, status = self.guide(include), 200 if is_known else 404
             said = self.post("/ValueSet/$validate-code", guide, code, along, status=status)
             assert not is_known or told(said, "result") == [False]
@@ -410,17 +377,13 @@ class TestPublisher(Client):
     def test_many_codes(self) -> None:
         """A value set that lists its codes is longer than other bodies may be."""
         codes = list(self.codes.values())
-        listed = [
-            {"code": codes[place % len(codes)], "display": "Display %d of a code" % place}
-            for place in range(LISTED_CODES)
-        ]
+        listed = [{"code": codes[place % len(codes)], "display": "Display %d of a code" % place}
+                  for place in range(LISTED_CODES)]
         guide = self.guide({"system": SCT, "concept": listed})
         assert len(json.dumps(guide)) > limits.BODY_BYTES
         said = self.post("/ValueSet/$expand", guide, *self.always)["expansion"]
         there = self.snapshot().concepts
-        assert [one["code"] for one in said["contains"]] == sorted(
-            there.keys() & {*codes}, key=int
-        )
+        assert [one["code"] for one in said["contains"]] == sorted(there.keys() & {*codes}, key=int)
 
     def test_a_batch(self) -> None:
         of_limbs = [self.guide(self.below("limb"))]
@@ -428,21 +391,15 @@ class TestPublisher(Client):
         for name, kind in (("limb", "CodeSystem"), ("injury", "ValueSet"), ("carpal", "ValueSet")):
             coding: Json = {"name": "coding", "valueCoding": self.coding(name)}
             parts = [coding, *(of_limbs if kind == "ValueSet" else []), *self.always]
-            entries.append(
-                {
-                    "resource": {"resourceType": "Parameters", "parameter": parts},
-                    "request": {"method": "POST", "url": kind + "/$validate-code"},
-                }
-            )
+            entries.append({"resource": {"resourceType": "Parameters", "parameter": parts},
+                            "request": {"method": "POST", "url": kind + "/$validate-code"}})
         said = self.post_resource("", {"resourceType": "Bundle", "type": "batch", "entry": entries})
         found = [told(one["resource"], "result") for one in said["entry"]]
         assert found == [[True], [False], [True]]
 
     def test_whether_a_code_subsumes_another(self) -> None:
-        parts = [
-            {"name": name, "valueCoding": self.coding(code)}
-            for name, code in (("codingA", "injury"), ("codingB", "carpal"))
-        ]
+        parts = [{"name": name, "valueCoding": self.coding(code)}
+                 for name, code in (("codingA", "injury"), ("codingB", "carpal"))]
         said = self.post("/CodeSystem/$subsumes", *parts)
         assert told(said, "outcome") == ["subsumes"]
 
@@ -476,10 +433,8 @@ class TestForms(Client):
 
     def test_the_answers_of_a_question(self) -> None:
         """All of a value set, at once."""
-        for url, name in (
-            (SCT + "?fhir_vs=isa/" + self.codes["limb"], "limb"),
-            (SCT + "?fhir_vs=ecl/" + quote("<<%s" % self.codes["injury"]), "injury"),
-        ):
+        for url, name in ((SCT + "?fhir_vs=isa/" + self.codes["limb"], "limb"),
+                          (SCT + "?fhir_vs=ecl/" + quote("<<%s" % self.codes["injury"]), "injury")):
             said = self.read(url)
             assert [one["code"] for one in said["contains"]] == self.within(name)
             assert {one["system"] for one in said["contains"]} == {SCT}
@@ -488,15 +443,9 @@ class TestForms(Client):
         """Seven entries, and more on demand, which are shown by their displays."""
         files = self.snapshot()
         for count in (7, 500):
-            said = self.read(
-                SCT + "?fhir_vs=isa/" + self.codes["finding"],
-                filter="fracture of",
-                count=count,
-                _format="application/json",
-            )
-            wanted = {
-                code for code in self.within("finding") if files.begins(code, "fracture of")
-            }
+            said = self.read(SCT + "?fhir_vs=isa/" + self.codes["finding"], filter="fracture of",
+                             count=count, _format="application/json")
+            wanted = {code for code in self.within("finding") if files.begins(code, "fracture of")}
             assert {one["code"] for one in said["contains"]} == wanted
             assert (said["total"], len(wanted) > 1) == (len(wanted), True)
             assert all(one["display"] for one in said["contains"])
@@ -530,12 +479,8 @@ class TestSnowstorm(Client):
     def test_lookups(self) -> None:
         code = self.codes["wrist"]
         edition = SCT + "/900000000000207008"
-        for query, day in (
-            ("", LATEST),
-            ("&_format=json", LATEST),
-            ("&version=" + edition, LATEST),
-            ("&version=" + version("20190131"), "20190131"),
-        ):
+        for query, day in (("", LATEST), ("&_format=json", LATEST), ("&version=" + edition, LATEST),
+                           ("&version=" + version("20190131"), "20190131")):
             said = self.get("CodeSystem/$lookup?system=%s&code=%s%s" % (SCT, code, query))
             files = self.snapshot(day)
             assert told(said, "version") == [version(day)]
@@ -543,19 +488,15 @@ class TestSnowstorm(Client):
             assert sorted(terms) == sorted(row[7] for row in files.terms(code))
             assert {*properties(said).get("parent", [])} == files.parents(code)
         said = self.get(
-            "CodeSystem/$lookup?code=%s&system=%s&property=normalForm" % (self.codes["limb"], SCT)
-        )
+            "CodeSystem/$lookup?code=%s&system=%s&property=normalForm" % (self.codes["limb"], SCT))
         (form,) = properties(said)["normalForm"]
         assert form.startswith("<<< %s|" % self.codes["injury"])
 
     def test_subsumption(self) -> None:
         query = "CodeSystem/$subsumes?system=%s&codeA=%s&codeB=%s"
         for first, second, outcome in (
-            ("limb", "injury", "subsumed-by"),
-            ("injury", "limb", "subsumes"),
-            ("limb", "limb", "equivalent"),
-            ("limb", "drug", "not-subsumed"),
-        ):
+                ("limb", "injury", "subsumed-by"), ("injury", "limb", "subsumes"),
+                ("limb", "limb", "equivalent"), ("limb", "drug", "not-subsumed")):
             said = self.get(query % (SCT, self.codes[first], self.codes[second]))
             assert told(said, "outcome") == [outcome], (first, second)
 
@@ -592,11 +533,10 @@ class TestSnowstorm(Client):
         """The target is SNOMED CT, or the code system of a map."""
         source = "&source=%s?fhir_vs" % SCT
         for name, target, refset, wanted in (
-            ("anaemia", ICD_10_SYSTEM, demo.ICD_10, ["D50.8", "D64.9"]),
-            ("limb", demo.CTV3_SYSTEM, demo.CTV3, ["X2", "X3"]),
-            ("wrist", SCT + "?fhir_vs", REPLACED_BY, [self.codes["radius"]]),
-            ("wrist", SCT, REPLACED_BY, [self.codes["radius"]]),
-        ):
+                ("anaemia", ICD_10_SYSTEM, demo.ICD_10, ["D50.8", "D64.9"]),
+                ("limb", demo.CTV3_SYSTEM, demo.CTV3, ["X2", "X3"]),
+                ("wrist", SCT + "?fhir_vs", REPLACED_BY, [self.codes["radius"]]),
+                ("wrist", SCT, REPLACED_BY, [self.codes["radius"]])):
             asked = "code=%s&system=%s%s&target=%s" % (self.codes[name], SCT, source, target)
             for url in ("&url=%s?fhir_cm=%s" % (SCT, refset), ""):
                 said = self.get("ConceptMap/$translate?" + asked + url)

@@ -12,24 +12,19 @@ from .fixtures import SCT, Json, issue, told, version
 class TestValidate(Asked):
     def code(self, code: str, **words: Any) -> Json:
         code = self.codes.get(code, code)
-        status, said = self.service.gateway.fhir(
-            "CodeSystem/$validate-code", url=SCT, code=code, **words
-        )
+        status, said = self.gateway.fhir("CodeSystem/$validate-code", url=SCT, code=code, **words)
         assert status == 200, said
         return said
 
     def member(self, top: str, code: str, **words: Any) -> Json:
         url = "%s?fhir_vs=isa/%s" % (SCT, self.codes[top])
-        return self.service.gateway.fhir(
-            "ValueSet/$validate-code", url=url, system=SCT, code=self.codes[code], **words
-        )[1]
+        return self.gateway.fhir(
+            "ValueSet/$validate-code", url=url, system=SCT, code=self.codes[code], **words)[1]
 
     def concept(self, *codings: Json) -> tuple[int, Json]:
-        return self.service.gateway.posted(
-            "CodeSystem/$validate-code",
-            {"name": "url", "valueUri": SCT},
-            {"name": "codeableConcept", "valueCodeableConcept": {"coding": list(codings)}},
-        )
+        return self.gateway.posted(
+            "CodeSystem/$validate-code", {"name": "url", "valueUri": SCT},
+            {"name": "codeableConcept", "valueCodeableConcept": {"coding": list(codings)}})
 
     def test_code(self) -> None:
         said = self.code("wrist")
@@ -51,20 +46,15 @@ class TestValidate(Asked):
         assert told(said, "result") == [valid], language
 
     def test_display_without_a_code(self) -> None:
-        status, _ = self.service.gateway.fhir("CodeSystem/$validate-code", url=SCT, display="x")
+        status, _ = self.gateway.fhir("CodeSystem/$validate-code", url=SCT, display="x")
         assert status == 400
 
     def test_concept_with_several_codings(self) -> None:
         limb, unknown = {"system": SCT, "code": self.codes["limb"]}, {"system": SCT, "code": "999"}
         other = {"system": "http://hl7.org/fhir/sid/icd-10", "code": "S52"}
         for codings, valid in (
-            ((unknown, limb), True),
-            ((limb, unknown), True),
-            ((other, limb), True),
-            ((limb, other), True),
-            ((other,), False),
-            ((unknown, other), False),
-        ):
+                ((unknown, limb), True), ((limb, unknown), True), ((other, limb), True),
+                ((limb, other), True), ((other,), False), ((unknown, other), False)):
             status, said = self.concept(*codings)
             assert (status, told(said, "result")) == (200, [valid]), codings
 
@@ -84,20 +74,12 @@ class TestValidate(Asked):
             assert self.concept(*[unknown] * count)[0] == status, count
 
     def test_other_code_system(self) -> None:
-        status, _ = self.service.gateway.fhir(
-            "CodeSystem/$validate-code", url="http://loinc.org", code="1-8"
-        )
+        status, _ = self.gateway.fhir(
+            "CodeSystem/$validate-code", url="http://loinc.org", code="1-8")
         assert status == 404
 
-    @pytest.mark.parametrize(
-        "day, valid",
-        (
-            ("20190130", False),
-            ("20190131", True),
-            ("20210130", True),
-            ("20210131", False),
-        ),
-    )
+    @pytest.mark.parametrize("day, valid", (
+        ("20190130", False), ("20190131", True), ("20210130", True), ("20210131", False)))
     def test_member_by_date(self, day: str, valid: bool) -> None:
         said = self.member("limb", "wrist", systemVersion=version(day))
         assert told(said, "result") == [valid], day
@@ -107,22 +89,16 @@ class TestValidate(Asked):
         path, url = "ValueSet/$validate-code", "%s?fhir_vs=isa/%s" % (SCT, self.codes["limb"])
         other = {"system": "http://hl7.org/fhir/sid/icd-10", "code": "S52"}
         parts = {"name": "url", "valueUri": url}, {"name": "coding", "valueCoding": other}
-        for status, said in (
-            self.service.gateway.fhir(path, url=url, **other),
-            self.service.gateway.posted(path, *parts),
-        ):
+        for status, said in (self.gateway.fhir(path, url=url, **other),
+                             self.gateway.posted(path, *parts)):
             assert (status, told(said, "result")) == (200, [False]), said
             assert told(said, "message") == ["no code is one of " + SCT]
 
     def test_member_of_the_reference_sets(self) -> None:
         """Of which this store has none."""
         for what in ("=refset", "=refset/" + self.codes["limb"]):
-            status, said = self.service.gateway.fhir(
-                "ValueSet/$validate-code",
-                url=SCT + "?fhir_vs" + what,
-                system=SCT,
-                code=self.codes["wrist"],
-            )
+            status, said = self.gateway.fhir("ValueSet/$validate-code", url=SCT + "?fhir_vs" + what,
+                                             system=SCT, code=self.codes["wrist"])
             assert (status, issue(said)) == (422, "not-supported"), what
 
     def test_member_of_its_own(self) -> None:
@@ -134,71 +110,47 @@ class TestValidate(Asked):
 
     def test_member_of_the_version_of_the_value_set(self) -> None:
         url = "%s?fhir_vs=isa/%s" % (version("20190131"), self.codes["limb"])
-        said = self.service.gateway.fhir(
-            "ValueSet/$validate-code", url=url, system=SCT, code=self.codes["wrist"]
-        )[1]
+        said = self.gateway.fhir(
+            "ValueSet/$validate-code", url=url, system=SCT, code=self.codes["wrist"])[1]
         assert (told(said, "result"), told(said, "version")) == ([True], [version("20190131")])
 
 
 class TestSubsumes(Asked):
     def outcome(self, first: str, second: str, **words: Any) -> list[str]:
-        said = self.service.gateway.fhir(
-            "CodeSystem/$subsumes",
-            system=SCT,
-            codeA=self.codes[first],
-            codeB=self.codes[second],
-            **words,
-        )[1]
+        said = self.gateway.fhir("CodeSystem/$subsumes", system=SCT, codeA=self.codes[first],
+                                 codeB=self.codes[second], **words)[1]
         return told(said, "outcome")
 
-    @pytest.mark.parametrize(
-        "first, second, outcome",
-        (
-            ("finding", "radius2", "subsumes"),
-            ("radius2", "finding", "subsumed-by"),
-            ("drug", "wrist", "not-subsumed"),
-            ("wrist", "wrist", "equivalent"),
-        ),
-    )
+    @pytest.mark.parametrize("first, second, outcome", (
+        ("finding", "radius2", "subsumes"), ("radius2", "finding", "subsumed-by"),
+        ("drug", "wrist", "not-subsumed"), ("wrist", "wrist", "equivalent")))
     def test_outcomes(self, first: str, second: str, outcome: str) -> None:
         assert self.outcome(first, second) == [outcome]
 
-    @pytest.mark.parametrize(
-        "day, outcome", (("20190130", "not-subsumed"), ("20190131", "subsumes"))
-    )
+    @pytest.mark.parametrize("day, outcome", (
+        ("20190130", "not-subsumed"), ("20190131", "subsumes")))
     def test_by_date(self, day: str, outcome: str) -> None:
         assert self.outcome("limb", "wrist", version=version(day)) == [outcome]
 
     def test_unknown(self) -> None:
-        status, _ = self.service.gateway.fhir(
-            "CodeSystem/$subsumes", system=SCT, codeA="1", codeB="138875005"
-        )
+        status, _ = self.gateway.fhir(
+            "CodeSystem/$subsumes", system=SCT, codeA="1", codeB="138875005")
         assert status == 404
 
     @pytest.mark.parametrize("prefer", ("", "handling=strict"))
     def test_date(self, prefer: str) -> None:
         """FHIR has none here, and a record has one."""
-        for date, outcome, release in (
-            ("2019-01-30", "not-subsumed", "20180731"),
-            ("2019-01-31", "subsumes", "20190131"),
-            ("2030-01-01", "not-subsumed", "20220731"),
-        ):
+        for date, outcome, release in (("2019-01-30", "not-subsumed", "20180731"),
+                                       ("2019-01-31", "subsumes", "20190131"),
+                                       ("2030-01-01", "not-subsumed", "20220731")):
             target = "/fhir/CodeSystem/$subsumes?system=%s&codeA=%s&codeB=%s&date=%s" % (
-                SCT,
-                self.codes["limb"],
-                self.codes["wrist"],
-                date,
-            )
-            said = self.service.gateway.send("GET", target, headers={"Prefer": prefer}).json()
+                SCT, self.codes["limb"], self.codes["wrist"], date)
+            said = self.gateway.send("GET", target, headers={"Prefer": prefer}).json()
             assert told(said, "outcome") == [outcome], date
             assert (told(said, "version"), told(said, "sctd-date")) == ([version(release)], [date])
 
     def test_codings_of_different_dates(self) -> None:
-        codings = [
-            {
-                "name": name,
-                "valueCoding": {"system": SCT, "code": "138875005", "version": version(day)},
-            }
-            for name, day in (("codingA", "20180101"), ("codingB", "20190101"))
-        ]
-        assert self.service.gateway.posted("CodeSystem/$subsumes", *codings)[0] == 400
+        coding = {"system": SCT, "code": "138875005"}
+        codings = [{"name": name, "valueCoding": {**coding, "version": version(day)}}
+                   for name, day in (("codingA", "20180101"), ("codingB", "20190101"))]
+        assert self.gateway.posted("CodeSystem/$subsumes", *codings)[0] == 400

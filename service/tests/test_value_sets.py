@@ -16,7 +16,7 @@ SECOND_DAYS = ("20200131", "20200731", "20210131")
 
 class TestExpand(Asked):
     def ask(self, what: str, **words: Any) -> tuple[int, Json]:
-        return self.service.gateway.fhir("ValueSet/$expand", url=SCT + "?fhir_vs" + what, **words)
+        return self.gateway.fhir("ValueSet/$expand", url=SCT + "?fhir_vs" + what, **words)
 
     def expanded(self, what: str = "", **words: Any) -> tuple[list[str], Json]:
         status, said = self.ask(what, **words)
@@ -37,14 +37,11 @@ class TestExpand(Asked):
 
     def test_isa_in_the_version_of_the_url(self) -> None:
         url = "%s?fhir_vs=isa/%s" % (version("20190131"), self.codes["limb"])
-        said = self.service.gateway.fhir("ValueSet/$expand", url=url)[1]["expansion"]
+        said = self.gateway.fhir("ValueSet/$expand", url=url)[1]["expansion"]
         assert {one["code"] for one in said["contains"]} == {
-            self.codes["limb"],
-            self.codes["wrist"],
-        }
+            self.codes["limb"], self.codes["wrist"]}
         assert {"name": "version", "valueUri": "%s|%s" % (SCT, version("20190131"))} in said[
-            "parameter"
-        ]
+            "parameter"]
 
     def test_system_version(self) -> None:
         found = self.expanded(self.isa("limb"), system_version=SCT + "|" + version("20180101"))[0]
@@ -66,10 +63,8 @@ class TestExpand(Asked):
     def test_active_only_and_pages(self) -> None:
         whole = self.expanded(self.isa("limb"), activeOnly="true")[0]
         assert len(whole) == 3
-        pages = [
-            self.expanded(self.isa("limb"), activeOnly="true", offset=at, count=1)[0]
-            for at in range(4)
-        ]
+        pages = [self.expanded(self.isa("limb"), activeOnly="true", offset=at, count=1)[0]
+                 for at in range(4)]
         assert pages == [[one] for one in whole] + [[]]
 
     def test_sources_of_an_attribute(self) -> None:
@@ -88,15 +83,11 @@ class TestExpand(Asked):
 
     def test_designations(self) -> None:
         said = self.expanded(
-            "", filter="handgelenk", includeDesignations="true", displayLanguage="de"
-        )[1]
+            "", filter="handgelenk", includeDesignations="true", displayLanguage="de")[1]
         one = said["contains"][0]
         assert one["display"] == "Handgelenksfraktur"
         assert {term["value"] for term in one["designation"]} == {
-            "Handgelenksfraktur",
-            "Wrist fracture",
-            "Fracture of wrist joint region (disorder)",
-        }
+            "Handgelenksfraktur", "Wrist fracture", "Fracture of wrist joint region (disorder)"}
 
     def test_all(self) -> None:
         found, said = self.expanded("", count=5)
@@ -106,10 +97,8 @@ class TestExpand(Asked):
 
     def test_again_at_the_pin(self) -> None:
         url = SCT + "?fhir_vs" + self.isa("limb")
-        answers = [
-            self.service.gateway.fhir("ValueSet/$expand", base, url=url)[1]
-            for base in ("/fhir/", "/pin/3/fhir/")
-        ]
+        answers = [self.gateway.fhir("ValueSet/$expand", base, url=url)[1]
+                   for base in ("/fhir/", "/pin/3/fhir/")]
         for one in answers:
             del one["expansion"]["timestamp"]
         assert answers[0] == answers[1]
@@ -134,32 +123,25 @@ class TestExpand(Asked):
             ("", {"filter": "a\u0085b"}, 400),
             ("", {"filter": " "}, 400),
             ("", {"filter": "x" * 201}, 400),
-            ("", {"activeOnly": "yes"}, 400),
-        )
+            ("", {"activeOnly": "yes"}, 400))
         for what, words, status in cases:
             got, said = self.ask(what, **words)
             assert (got, said["resourceType"]) == (status, "OperationOutcome"), (what, words)
-        fhir = self.service.gateway.fhir
+        fhir = self.gateway.fhir
         assert fhir("ValueSet/$expand", url="http://hl7.org/fhir/ValueSet/x")[0] == 404
         assert fhir("ValueSet/$expand", url="http://snomed.info/sctx?fhir_vs")[0] == 404
         assert fhir("ValueSet/$expand")[0] == 400
 
-    @pytest.mark.parametrize(
-        "text", ("%", "a b  c", "\u00e9\u4e2d\U0001f600" * 60, "PIN 1", "x" * 200)
-    )
+    @pytest.mark.parametrize("text", (
+        "%", "a b  c", "\u00e9\u4e2d\U0001f600" * 60, "PIN 1", "x" * 200))
     def test_filter_that_no_line_of_the_hub_can_split(self, text: str) -> None:
         assert self.ask("", filter=text)[0] == 200, text
 
 
 class TestTranslate(Asked):
     def ask(self, refset: str, code: str = "wrist", **words: Any) -> tuple[int, Json]:
-        return self.service.gateway.fhir(
-            "ConceptMap/$translate",
-            url="%s?fhir_cm=%s" % (SCT, refset),
-            system=SCT,
-            code=self.codes[code],
-            **words,
-        )
+        return self.gateway.fhir("ConceptMap/$translate", url="%s?fhir_cm=%s" % (SCT, refset),
+                                 system=SCT, code=self.codes[code], **words)
 
     def test_replaced_by(self) -> None:
         found = parts_of(self.ask("900000000000526001")[1], "match")
@@ -170,26 +152,19 @@ class TestTranslate(Asked):
     def test_possibly(self) -> None:
         found = parts_of(self.ask("900000000000523009")[1], "match")
         assert {(one["equivalence"], one["concept"]["code"]) for one in found} == {
-            ("inexact", self.codes["radius"]),
-            ("inexact", self.codes["carpal"]),
-        }
+            ("inexact", self.codes["radius"]), ("inexact", self.codes["carpal"])}
 
     def test_same_as(self) -> None:
         found = parts_of(self.ask("900000000000527005", "radius")[1], "match")
         assert [(one["equivalence"], one["concept"]["code"]) for one in found] == [
-            ("equal", self.codes["radius2"])
-        ]
+            ("equal", self.codes["radius2"])]
 
-    @pytest.mark.parametrize(
-        "refset, target, equivalence",
-        (
-            (demo.WAS_A, "injury", "wider"),
-            (demo.SIMILAR_TO, "limb", "relatedto"),
-            (demo.ALTERNATIVE, "limb", "inexact"),
-            (demo.POSSIBLY_REPLACED_BY, "limb", "inexact"),
-            (demo.PARTIALLY_EQUIVALENT_TO, "limb", "inexact"),
-        ),
-    )
+    @pytest.mark.parametrize("refset, target, equivalence", (
+        (demo.WAS_A, "injury", "wider"),
+        (demo.SIMILAR_TO, "limb", "relatedto"),
+        (demo.ALTERNATIVE, "limb", "inexact"),
+        (demo.POSSIBLY_REPLACED_BY, "limb", "inexact"),
+        (demo.PARTIALLY_EQUIVALENT_TO, "limb", "inexact")))
     def test_what_each_association_says(self, refset: Any, target: str, equivalence: str) -> None:
         """As the definitions of the reference sets and of ConceptMapEquivalence have it."""
         said = self.ask(refset, "vague")[1]
@@ -214,51 +189,46 @@ class TestTranslate(Asked):
         assert self.ask("900000000000207008")[0] == 404
         assert self.ask("900000000000526001", targetsystem="http://loinc.org")[0] == 404
         assert self.ask("900000000000526001", date="2010-01-01")[0] == 404
-        status, _ = self.service.gateway.fhir(
-            "ConceptMap/$translate", url=SCT, system=SCT, code="138875005"
-        )
+        status, _ = self.gateway.fhir(
+            "ConceptMap/$translate", url=SCT, system=SCT, code="138875005")
         assert status == 404
 
 
 class TestMetadata(Asked):
     def test_capability_statement(self) -> None:
-        said = self.service.gateway.fhir("metadata")[1]
+        said = self.gateway.fhir("metadata")[1]
         assert (said["resourceType"], said["fhirVersion"]) == ("CapabilityStatement", "4.0.1")
         offered = {
             "%s/$%s" % (resource["type"], operation["name"])
-            for resource in said["rest"][0]["resource"]
-            for operation in resource["operation"]
-        }
+            for resource in said["rest"][0]["resource"] for operation in resource["operation"]}
         for path in offered:
-            status, answer = self.service.gateway.fhir(path)
+            status, answer = self.gateway.fhir(path)
             assert (status, issue(answer)) == (400, "required"), path
         assert len(offered) == 6
 
     def test_terminology_capabilities(self) -> None:
-        said = self.service.gateway.fhir("metadata", mode="terminology")[1]
+        said = self.gateway.fhir("metadata", mode="terminology")[1]
         assert said["resourceType"] == "TerminologyCapabilities"
         versions = said["codeSystem"][0]["version"]
         assert [one["code"] for one in versions] == [
-            version(day) for day in (*FIRST_DAYS, *SECOND_DAYS, "20220731")
-        ]
+            version(day) for day in (*FIRST_DAYS, *SECOND_DAYS, "20220731")]
         assert [one["code"] for one in versions if one["isDefault"]] == [version("20220731")]
         assert {"name": "filter"} in said["expansion"]["parameter"]
         # (test_display_of_a_language of test_validation.py has a term of German.)
         assert said["validateCode"] == {"translations": True}
         # Neither $closure nor a search of value sets by a code is answered.
         assert said.keys() & {"closure", "codeSearch"} == set()
-        said = self.service.gateway.fhir("metadata", base="/pin/2/fhir/", mode="terminology")[1]
+        said = self.gateway.fhir("metadata", base="/pin/2/fhir/", mode="terminology")[1]
         assert [one["code"] for one in said["codeSystem"][0]["version"]] == [
-            version(day) for day in (*FIRST_DAYS, *SECOND_DAYS)
-        ]
+            version(day) for day in (*FIRST_DAYS, *SECOND_DAYS)]
 
     def test_modes(self) -> None:
-        fhir = self.service.gateway.fhir
+        fhir = self.gateway.fhir
         assert fhir("metadata", mode="full")[0] == 200
         assert fhir("metadata", mode="x")[0] == 400
 
     def test_code_system(self) -> None:
-        fhir = self.service.gateway.fhir
+        fhir = self.gateway.fhir
         days = (*FIRST_DAYS, *SECOND_DAYS, "20220731")
         searches: tuple[dict[str, str], ...] = ({"url": SCT}, {"system": SCT}, {})
         for words in searches:

@@ -19,14 +19,10 @@ class TestWaits(Asked):
         cases = [
             (GET[:30], limits.HEAD_SECONDS, b"HTTP/1.1 408 "),
             (POST + b"Content-Length: 9\r\n\r\nabc", limits.BODY_SECONDS, b"HTTP/1.1 408 "),
-            (
-                POST + b"Transfer-Encoding: chunked\r\n\r\n3\r\nab",
-                limits.BODY_SECONDS,
-                b"HTTP/1.1 408 ",
-            ),
+            (POST + b"Transfer-Encoding: chunked\r\n\r\n3\r\nab", limits.BODY_SECONDS,
+             b"HTTP/1.1 408 "),
             (b"", limits.IDLE_SECONDS, b""),
-            (GET + b"\r\n", limits.IDLE_SECONDS, b"HTTP/1.1 200 "),
-        ]
+            (GET + b"\r\n", limits.IDLE_SECONDS, b"HTTP/1.1 200 ")]
         began = time.monotonic()
         clients = [gateway.connect() for _ in cases]
         for client, (data, _, _) in zip(clients, cases):

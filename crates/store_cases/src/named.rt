@@ -35,7 +35,7 @@ impl Name for Sign {
 }
 
 /// An empty disk with such a name.
-fn named(alloc: Global, bytes: u64) -> NamedDisk<MemDisk, Sign> {
+fn named_disk(alloc: Global, bytes: u64) -> NamedDisk<MemDisk, Sign> {
     NamedDisk::new(MemDisk::new(alloc), Sign { bytes }, 0)
 }
 
@@ -51,7 +51,7 @@ impl Named {
     pub fn new(alloc: Global) -> Named {
         Named {
             alloc,
-            disk: named(alloc, 0),
+            disk: named_disk(alloc, 0),
         }
     }
 
@@ -60,7 +60,7 @@ impl Named {
         let (word, rest) = two_words(words);
         match word {
             "to" => {
-                self.disk = named(self.alloc, number(rest)?);
+                self.disk = named_disk(self.alloc, number(rest)?);
                 Ok(String::from_str(self.alloc, "done")?)
             }
             "missed" => {

@@ -36,7 +36,12 @@ struct Said {
 }
 
 /// Lets the server of the store answer lines.
-fn said(alloc: Global, state: &mut CaseState, sent: &Sent, way: Way<'_>) -> Result<Said, NoAnswer> {
+fn answered(
+    alloc: Global,
+    state: &mut CaseState,
+    sent: &Sent,
+    way: Way<'_>,
+) -> Result<Said, NoAnswer> {
     let written = Cell::new(0usize);
     let mut input = Pieces::new(alloc, sent.bytes.as_slice(), way.pieces, &written);
     input.end_with(way.failure, sent.later.as_slice());
@@ -71,7 +76,7 @@ pub fn run(
     state: &mut CaseState,
     part: &str,
 ) -> Result<(String, Vec<u8>), NoAnswer> {
-    let mut told = said(alloc, state, &scripts.sent(part)?, Way::ample())?;
+    let mut told = answered(alloc, state, &scripts.sent(part)?, Way::ample())?;
     let mut answer = mem::replace(&mut told.answer, String::new(alloc));
     spell_lines(alloc, &mut answer, &told.taken)?;
     Ok((answer, mem::replace(&mut told.taken, Vec::new(alloc))))
@@ -87,7 +92,7 @@ pub fn ask_way(
     last: &[u8],
 ) -> Answer {
     let (part, words) = two_words(words);
-    let mut told = said(alloc, state, &scripts.sent(part)?, Way::of(words)?)?;
+    let mut told = answered(alloc, state, &scripts.sent(part)?, Way::of(words)?)?;
     let mut answer = mem::replace(&mut told.answer, String::new(alloc));
     if word == "noted-way" {
         answer.push_str(if told.noted.is_empty() { "\n-" } else { "\n" })?;

@@ -33,7 +33,7 @@ use crate::named::Named;
 use crate::refusals::all_refusals;
 use crate::runs::{ask_way, run};
 use crate::scripts::Scripts;
-use crate::unwritten::unwritten;
+use crate::unwritten::run_unwritten;
 use case_files::{Answer, Answers, NoAnswer};
 use case_values::{Groups, choice_of, first_word, number};
 use disk_model::MemDisk;
@@ -455,7 +455,7 @@ impl Answers for Trials<'_> {
             "run" => self.run_part(rest),
             "way" | "noted-way" => self.ask_way(word, rest),
             "named" => self.named.answer(rest),
-            "unwritten" => unwritten(self.rt, rest),
+            "unwritten" => run_unwritten(self.rt, rest),
             "refusals" => all_refusals(self.alloc),
             "remember" => self.scripts.remember(&mut self.state, rest),
             "known" => self.scripts.known(&mut self.state, rest),

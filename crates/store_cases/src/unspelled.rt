@@ -10,16 +10,16 @@ use rf2_rows::Kind;
 use std::alloc::Global;
 use test_support::Example;
 
-/// The question with the limit 0, or about concepts.
-fn unspelled(question: RowQuestion<'_>) -> Result<RowQuestion<'_>, NoAnswer> {
+/// The question with the limit 0, or about concepts; none if it is about one row.
+fn unspelled<'a>(question: &RowQuestion<'a>) -> Option<RowQuestion<'a>> {
     let (kind, limit) = (Kind::Concept, 0);
-    match question {
+    match *question {
         RowQuestion::Page {
             kind,
             date,
             after,
             ..
-        } => Ok(RowQuestion::Page {
+        } => Some(RowQuestion::Page {
             kind,
             date,
             after,
@@ -31,14 +31,14 @@ fn unspelled(question: RowQuestion<'_>) -> Result<RowQuestion<'_>, NoAnswer> {
             date,
             after,
             ..
-        } => Ok(RowQuestion::Delta {
+        } => Some(RowQuestion::Delta {
             kind,
             from,
             date,
             after,
             limit,
         }),
-        RowQuestion::Terms { prefix, date, .. } => Ok(RowQuestion::Terms {
+        RowQuestion::Terms { prefix, date, .. } => Some(RowQuestion::Terms {
             prefix,
             date,
             limit,
@@ -48,15 +48,15 @@ fn unspelled(question: RowQuestion<'_>) -> Result<RowQuestion<'_>, NoAnswer> {
             date,
             after,
             ..
-        } => Ok(RowQuestion::Search {
+        } => Some(RowQuestion::Search {
             prefix,
             date,
             after,
             limit,
         }),
-        RowQuestion::About { id, date, .. } => Ok(RowQuestion::About { kind, id, date }),
-        RowQuestion::Timeline { id, .. } => Ok(RowQuestion::Timeline { kind, id }),
-        _ => Err(NoAnswer::NoQuestion),
+        RowQuestion::About { id, date, .. } => Some(RowQuestion::About { kind, id, date }),
+        RowQuestion::Timeline { id, .. } => Some(RowQuestion::Timeline { kind, id }),
+        _ => None,
     }
 }
 
@@ -72,7 +72,10 @@ pub fn count_unspelled(alloc: Global, store: &mut Example, line: &str) -> Answer
     else {
         return Err(NoAnswer::NoQuestion);
     };
-    match store.count(&unspelled(question)?, number) {
+    let Some(asked) = unspelled(&question) else {
+        return Err(NoAnswer::NoQuestion);
+    };
+    match store.count(&asked, number) {
         Some(Ok(count)) => Ok(format!(in alloc; "{count} rows")?),
         Some(Err(refusal)) => spell_refusal(alloc, refusal),
         None => Err(NoAnswer::NoQuestion),

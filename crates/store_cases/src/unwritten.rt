@@ -47,7 +47,7 @@ fn words_of(alloc: Global, word: &str) -> Result<Vec<String>, AllocError> {
 }
 
 /// Runs the program with a word.
-pub fn unwritten(rt: &HostRuntime, word: &str) -> Answer {
+pub fn run_unwritten(rt: &HostRuntime, word: &str) -> Answer {
     let alloc = rt.alloc();
     let words = words_of(alloc, word)?;
     let taken = Vec::new(alloc);

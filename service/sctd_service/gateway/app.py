@@ -10,7 +10,7 @@ from urllib.parse import unquote
 
 from .. import VERSION
 from ..logs import tell
-from . import delivery, http, limits, metrics, pages
+from . import delivery, http, known, limits, metrics, pages
 from .fhir import Operation, batch, operation_at, operation_of
 from .fhir.inputs import Given, Query, parsed, posted
 from .fhir.outputs import dumped, text_in_parts, written
@@ -20,7 +20,7 @@ from .fhir.versions import Edition
 from .frame import FOLDER, JSON, Answer
 from .hub import NEEDS_LATER_LAYOUT, OUT_OF_MEMORY, HubGone, HubRefused, Reply
 from .pages import PAGES
-from .pool import Pool
+from .pool import DAMAGED, UNLISTED, Pool
 from .posted import pairs_of
 from .problems import (
     NO_MEMBERS, Json, Problem, invalid, missing, not_found, not_now, not_supported, too_costly)
@@ -61,8 +61,9 @@ UNWANTED = re.compile(r";[ \t]*q=0(\.0*)?[ \t]*(;|\Z)", re.I)
 # What FHIR calls a request that isn't one.
 ISSUES = {408: "timeout", 413: "too-long", 415: "not-supported", 431: "too-long",
           501: "not-supported", 503: "throttled"}
-# Parameters of each request that say how its answer is written.
+# Parameters of each request that say how its answer is written, and as of which imports.
 FORMAT, PRETTY = "_format", "_pretty"
+OF_ALL = (FORMAT, PRETTY, known.NAME)
 
 
 class App:
@@ -126,17 +127,19 @@ class App:
         return await self.page(request, pin, path)
 
     @contextlib.asynccontextmanager
-    async def view(self, request: http.Request, pin: int | None,
+    async def view(self, request: http.Request, pin: int | None, day: str,
                    is_walk: bool) -> AsyncIterator[View]:
-        """The store as a request sees it. No place is given to a walk whose client has left while
-        it waited for one."""
+        """The store as a request sees it, at its pin or as it was known on a day. No place is given
+        to a walk whose client has left while it waited for one."""
         async with contextlib.AsyncExitStack() as places:
             if is_walk:
                 waits = self.walks.locked()
                 await places.enter_async_context(self.walks)
                 if waits and request.has_left():
                     raise http.ClientLeftError
-            yield View(await places.enter_async_context(self.pool.session(pin)))
+            found = await known.known_on(self.pool, day)
+            seen = self.pool.session(found.pin if found else pin)
+            yield View(await places.enter_async_context(seen), found)
 
     async def fhir(self, request: http.Request, pin: int | None, path: str,
                    given: list[Given]) -> http.Response:
@@ -149,9 +152,11 @@ class App:
             check_body(request)
             sent = posted(parsed(request.body))
         operation, query = self.understood(found, given, sent, self.wants_all(request))
-        async with self.view(request, pin, operation.is_walk) as view:
+        day = known.day_in((*given, *sent), pin)
+        async with self.view(request, pin, day, operation.is_walk) as view:
             # All that the answer follows from.
-            whence = (VERSION, str(self.edition), view.receipt, str(view.pin), request.target)
+            whence = (VERSION, str(self.edition), view.receipt, str(view.pin), str(view.known),
+                      request.target)
             tag = None if request.method == "POST" else delivery.tag_of(whence)
             if tag and delivery.is_known(request, tag):
                 return http.Response(304, "", b"", delivery.kept(VARIED, tag, pin is not None))
@@ -178,13 +183,14 @@ class App:
                    sent: list[Given], is_strict: bool) -> tuple[Operation, Query]:
         """An operation with its parameters: those of its path, of its address, and of its body."""
         operation, of_path = found
-        named = [one for one in given if one[0] not in (FORMAT, PRETTY)] + sent
+        named = [one for one in given if one[0] not in OF_ALL]
+        named += [one for one in sent if one[0] != known.NAME]
         asked = [one for one in of_path if one not in named] + named
         return operation, Query(asked, operation.ways, is_strict)
 
     async def resource(self, operation: Operation, view: View, query: Query) -> Json:
         resource = await operation.answer(OperationRequest(self.edition, view, query))
-        return with_warnings(resource, query.passed)
+        return known.with_known(with_warnings(resource, query.passed), view.known)
 
     async def operated(self, operation: Operation, view: View, query: Query) -> http.Response:
         resource = await self.resource(operation, view, query)
@@ -196,7 +202,7 @@ class App:
         check_format(request, given)
         check_body(request)
         entries, is_strict = batch.entries_of(request.body), self.wants_all(request)
-        async with self.view(request, pin, is_walk=True) as view:
+        async with self.view(request, pin, known.day_in(given, pin), is_walk=True) as view:
             return await with_pin(view, request, self.of_batch(view, entries, is_strict))
 
     async def of_batch(self, view: View, entries: Sequence[batch.Entry],
@@ -220,12 +226,16 @@ class App:
         path, _, words = entry.url.partition("?")
         found, given = self.found(entry.method, unquote(path, errors="replace")), pairs_of(words)
         sent = posted(entry.resource) if entry.method == "POST" else []
+        if known.day_in((*given, *sent), None):
+            raise invalid("a batch is answered as of one pin: its own address has the known day")
         operation, query = self.understood(found, given, sent, is_strict)
         return await self.resource(operation, view, query)
 
     async def page(self, request: http.Request, pin: int | None, path: str) -> http.Response:
         words = await pages.words_of(path, request)
-        async with self.view(request, pin, PAGES[path].is_walk) as view:
+        named = [(known.NAME, words[known.NAME])] if words.get(known.NAME) else []
+        day = known.day_in(named, pin)
+        async with self.view(request, pin, day, PAGES[path].is_walk) as view:
             shown = pages.answered(path, self.edition, view, words, pin is not None)
             return await with_pin(view, request, sent(shown))
 
@@ -233,12 +243,14 @@ class App:
         """Whether the store can be asked, in time whatever hangs."""
         try:
             async with asyncio.timeout(limits.HEALTH_SECONDS), self.pool.opened(pin) as session:
-                view, is_damaged = View(session), await session.is_damaged()
+                view, troubles = View(session), await session.troubles()
         except (HubGone, HubRefused, TimeoutError, Problem) as error:
             problem = problem_of(error)
             return health_of(problem.status, {"problem": problem.text})
         state = {"pin": view.pin, "latest": view.latest}
-        if is_damaged:
+        if UNLISTED in troubles:
+            state["warning"] = "an import has no line in the list of imports so far"
+        if DAMAGED in troubles:
             return health_of(503, {**state, "problem": "the store is damaged"})
         return health_of(200, state)
 
@@ -284,7 +296,8 @@ async def with_pin(view: View, request: http.Request,
     except Problem as problem:
         response = await refused(problem, request)
     pin = (("X-Sctd-Pin", str(view.pin)), ("X-Sctd-Receipt", view.receipt))
-    return response._replace(headers=response.headers + pin)
+    told = ((known.HEADER, str(view.known)),) if view.known else ()
+    return response._replace(headers=(*response.headers, *pin, *told))
 
 
 def too_large() -> Problem:

@@ -21,7 +21,7 @@ FOR_GOOD = "private, max-age=31536000, immutable"
 ASKED_AGAIN = "private, no-cache"
 PAGES_METHODS = "GET, HEAD, POST, OPTIONS"
 PAGES_SEND = "Accept, Content-Type, If-None-Match, Prefer"
-PAGES_READ = "ETag, X-Sctd-Pin, X-Sctd-Receipt, Retry-After"
+PAGES_READ = "ETag, X-Sctd-Pin, X-Sctd-Receipt, X-Sctd-Known, Retry-After"
 PREFLIGHT_SECONDS = 600
 
 

@@ -15,7 +15,7 @@ from . import limits
 from .http import Headers
 from .markup import joined, tag, time
 from .problems import invalid
-from .store import View
+from .store import Known, View
 from ..snomed import is_day
 
 Item = TypeVar("Item")
@@ -25,9 +25,11 @@ RECORD, RECORDS, CHANGES = "/", "/records", "/changes"
 # What leads to each of the pages, and the words of its form.
 LINKS = {RECORD: ("./", "One record"), RECORDS: ("records", "A list of records"),
          CHANGES: ("changes", "What changed")}
-WORDS = {RECORD: ("q", "date", "other"), RECORDS: ("list", "file", "format"),
-         CHANGES: ("concept", "from", "to", "format")}
+WORDS = {RECORD: ("q", "date", "other", "known"), RECORDS: ("list", "file", "format", "known"),
+         CHANGES: ("concept", "from", "to", "format", "known")}
 TITLE = "The record as it stood"
+# A link to a page of the same pin.
+LINK = re.compile(r'href="(?:\./)?((?:changes)?\?)')
 WITH_HYPHENS = re.compile(r"[0-9]{4}-[0-9]{2}-[0-9]{2}\Z", re.ASCII)
 HTML, JSON, CSV = ("%s; charset=utf-8" % kind for kind in (
     "text/html", "application/json", "text/csv"))
@@ -59,7 +61,9 @@ class Answer(NamedTuple):
 
 def framed(place: str, form: Mapping[str, str], shown: Shown, view: View | None) -> Answer:
     """One of the pages, with its form as it was filled in."""
-    state: str = ""
+    state, content = "", shown.content
+    if view is not None and view.known:
+        content = as_was_known(view, view.known, content)
     if view is not None:
         latest = time(view.latest) if view.latest else "no date"
         state = joined("Pin %d. The store\u2019s latest release is of " % view.pin, latest, ".")
@@ -67,8 +71,16 @@ def framed(place: str, form: Mapping[str, str], shown: Shown, view: View | None)
     title = joined(" \u00b7 ".join(filter(None, (shown.title, TITLE))))
     page = FRAME.format(
         title=title, kind=LINKS[place][0].strip("./") or "record", pages=pages(place), form=filled,
-        content=shown.content, state=state)
+        content=content, state=state)
     return Answer(page.encode())
+
+
+def as_was_known(view: View, known: Known, content: Markup) -> Markup:
+    """What is shown of a day's knowledge, whose links lead to what was known then."""
+    said = tag("p", "As was known on ", time(known.day), ": import %d was the last one by the end "
+               "of that day (UTC), made at %s." % (known.pin, known.time), class_="known")
+    pinned = LINK.sub(lambda link: 'href="%s' % for_good(view, link[1]), content)
+    return joined(said, Markup(pinned))
 
 
 def pages(place: str) -> Markup:

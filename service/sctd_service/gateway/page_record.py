@@ -426,12 +426,14 @@ def report(view: View, question: Question, then: Side, versions: Sequence[Concep
     line = "%s; pin %d; %s; read on %s" % (
         reported(view, question, then, versions), view.pin, view.receipt,
         datetime.date.today().isoformat())
-    days = address(
-        q=question.code, date=with_hyphens(question.date), other=with_hyphens(question.other))
-    href = days if question.is_pinned else for_good(view, days)
+    words = {"q": question.code, "date": with_hyphens(question.date),
+             "other": with_hyphens(question.other)}
+    href = address(**words) if question.is_pinned else for_good(view, address(**words))
+    then_known = "" if question.is_pinned or view.known else tag(
+        "a", "As we knew it then", href=address(**words, known=words["date"]))
     return tag(
         "section", tag("h3", "For the report"),
         tag("label", "A line to be copied; the pin makes the same answer come again", for_="line"),
         tag("textarea", line, id="line", readonly="", rows="3"),
         tag("button", "Copy", type="button", id="copy", hidden=""), " ",
-        tag("a", "This page for good, at pin %d" % view.pin, href=href))
+        tag("a", "This page for good, at pin %d" % view.pin, href=href), " ", then_known)

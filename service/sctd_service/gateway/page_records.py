@@ -75,7 +75,7 @@ async def answer(edition: Edition, view: View, form: dict[str, str], is_pinned: 
     if is_file:
         return await asyncio.to_thread(as_file, edition, view, found)
     shown = await page_of(view, found, is_pinned)
-    return framed(RECORDS, {"list": text or file}, shown, view)
+    return framed(RECORDS, {**form, "list": text or file}, shown, view)
 
 
 async def judged(view: View, records: Sequence[Record]) -> list[Judged]:

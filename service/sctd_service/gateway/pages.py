@@ -41,7 +41,8 @@ PAGES: Mapping[str, Page] = {
     RECORD: Page(page.answer, WORDS[RECORD]),
     SUGGEST: Page(suggest, ("text", "date"), is_walk=False),
     CHANGES: Page(page_changes.answer, WORDS[CHANGES], questions=limits.CHANGES_QUESTIONS),
-    RECORDS: Page(page_records.answer, (), WORDS[RECORDS], questions=limits.RECORDS_QUESTIONS),
+    RECORDS: Page(page_records.answer, ("known",), WORDS[RECORDS],
+                  questions=limits.RECORDS_QUESTIONS),
 }
 
 

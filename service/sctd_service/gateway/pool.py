@@ -23,9 +23,11 @@ from . import limits
 from .hub import Connection, HubGone, Reply, refusal
 from .problems import not_now, too_costly
 
-DAMAGED = " Damaged"
+# What the hub says of a store in which something is wrong.
+UNLISTED, DAMAGED = "Unlisted", "Damaged"
 STATUS = re.compile(
-    r"OK [0-9]{1,10} [0-9]{1,10} [0-9]{1,10} (?:[0-9]{1,10}|-)(?:%s)?\Z" % DAMAGED, re.ASCII)
+    r"OK [0-9]{1,10} [0-9]{1,10} [0-9]{1,10} (?:[0-9]{1,10}|-)((?: %s)?(?: %s)?)\Z"
+    % (UNLISTED, DAMAGED), re.ASCII)
 IMPORTS = re.compile(rb"OK ([0-9]{1,10})\n\Z")
 RECEIPT = re.compile(r"OK [0-9]{1,10} [0-9]{1,10} (?:[0-9]{8}|-)\Z", re.ASCII)
 DATE = re.compile(r"DATE ([0-9]{8})\Z", re.ASCII)
@@ -238,12 +240,12 @@ class Session:
         if receipts:
             self.receipt = "RECEIPT %d: %s" % (self.pin, receipt_of(receipts[0]))
 
-    async def is_damaged(self) -> bool:
-        """Whether the hub says that the store is damaged. It has to answer for that."""
-        reply = (await self.connection.ask(["STATUS"]))[0]
-        if not STATUS.match(reply[-1]):
+    async def troubles(self) -> list[str]:
+        """What the hub says is wrong with the store. It has to answer for that."""
+        found = STATUS.match((await self.connection.ask(["STATUS"]))[0][-1])
+        if not found:
             raise HubGone("the hub says what isn't the store's state", True)
-        return reply[-1].endswith(DAMAGED)
+        return found[1].split()
 
     def remembered(self, lines: Sequence[str]) -> list[Reply | None]:
         """The reply to each line that is remembered."""

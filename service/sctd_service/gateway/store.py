@@ -6,7 +6,7 @@ import bisect
 import itertools
 import re
 from collections.abc import AsyncIterator, Iterable, Sequence
-from typing import TypeVar
+from typing import NamedTuple, TypeVar
 
 from . import limits
 from .hub import NEEDS_LATER_LAYOUT, HubGone, HubRefused, Reply
@@ -14,7 +14,7 @@ from .pool import Member, Members, Session
 from .problems import too_costly
 from ..snomed import (
     Association, Called, Concept, Description, Facts, Language, RefsetMember, Relationship,
-    distinct, display_of, has_name_in, is_concept_id, names_of, preferred_term)
+    distinct, display_of, has_name_in, is_concept_id, names_of, preferred_term, with_hyphens)
 
 Row = TypeVar("Row", Concept, Description, Relationship, Association)
 # A row of any kind, and all versions of one component, oldest first.
@@ -81,12 +81,25 @@ def called_of(reply: Reply) -> list[Called]:
     return found
 
 
-class View:
-    """The store as one request sees it: as the first `pin` imports left it."""
+class Known(NamedTuple):
+    """A day, and the last import that was made by the end of it, at this time."""
 
-    def __init__(self, session: Session) -> None:
+    day: str
+    pin: int
+    time: str
+
+    def __str__(self) -> str:
+        return "%s: import %d, made at %s" % (with_hyphens(self.day), self.pin, self.time)
+
+
+class View:
+    """The store as one request sees it: as the first `pin` imports left it, which may be those that
+    were known on a day."""
+
+    def __init__(self, session: Session, known: Known | None = None) -> None:
         # `latest` is the latest day of a row, or nothing where there is no row.
         self.session, self.pin, self.receipt = session, session.pin, session.receipt
+        self.known = known
         self.days, self.latest = session.days, session.days[-1] if session.days else ""
 
     def in_force(self, day: str) -> str:

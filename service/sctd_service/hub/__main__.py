@@ -3,6 +3,7 @@
 sctd-hub --program SCTD --store FILE --releases DIR [--socket PATH]
          [--questions PATH [--group NAME]] [--merge-above N] [--connections-a-user N]
          [--read-only | --make-store] [--config FILE]
+sctd-hub imports --store FILE [--program SCTD] [--to-repeat]
 
 The hub starts `sctd serve` and listens on the sockets, of which there has to be one. Each
 connection is a session of its own: a client sends lines without the session's number, such as
@@ -34,6 +35,13 @@ says (250 if it isn't said), and one that says nothing for ten minutes is closed
 earlier hub left behind is replaced. Anything else at its path, such as a file or the socket of a
 program that runs, stays, and the hub ends with status 1.
 
+Beside the store, in FILE.imports, the hub keeps a list of the imports, with the time, the name and
+the digest of each release, and who asked for it. `IMPORTS` prints it, and `KNOWN DAY` names the
+last import that was made by the end of a day, such as 20201015 (UTC). What is wrong with the list
+is logged, and stops nothing; while a line of it can't be written, STATUS ends with `Unlisted`.
+Without a hub, `sctd-hub imports --store FILE` prints the list, and with `--to-repeat` only the
+names of the releases whose imports the store doesn't have.
+
 With `--read-only` the program only reads FILE, which others may do too, as a second hub on the
 copy that a reader has; there is only the socket of `--questions` then.
 
@@ -56,7 +64,7 @@ from typing import Any, Optional
 
 from .. import settings, sockets
 from ..logs import log, tell
-from . import opening
+from . import imports, opening
 from .clients import Client, Hub
 from .program import Program, ProgramEndedError
 from .store import MOST_SEGMENTS, Store
@@ -156,7 +164,9 @@ async def serve(options: argparse.Namespace) -> int:
         # Another hub may have begun to listen while the store was opened.
         if not all(is_clear(path) for path in paths):
             return 1
-        store = Store(program, status, options.store, options.program, options.merge_above)
+        store = Store(program, status, options.store, options.program, options.releases,
+                      options.merge_above)
+        await store.list.begin(program, store.imports, not options.read_only)
         hub = Hub(program, store, options.connections_a_user)
         listeners = [Listener(options.socket, True)] if options.socket else []
         if options.questions:
@@ -220,6 +230,8 @@ def options_of(words: list[str]) -> argparse.Namespace:
 
 
 def main() -> int:
+    if sys.argv[1:2] == ["imports"]:
+        return imports.main(sys.argv[2:])
     options = options_of(sys.argv[1:])
     # Each client takes a file's number. Where no more can be had, fewer are served at a time.
     with contextlib.suppress(OSError, ValueError):

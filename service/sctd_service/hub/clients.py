@@ -125,8 +125,8 @@ class Client(asyncio.Protocol):
     def answered(self, line: bytes, reply: bytes) -> None:
         self.flying -= 1
         self.pin = pin_after(line, reply, self.pin)
-        if self.hub.program.damaged_at:
-            reply = with_damage(line, reply)
+        if words := self.hub.troubles():
+            reply = with_words(line, reply, words)
         self.replies.append(reply)
 
     def flush(self) -> None:
@@ -172,6 +172,10 @@ class Client(asyncio.Protocol):
             self.send(self.hub.store.imports_told())
         elif sort is Sort.METRICS:
             self.send(self.hub.metrics_told())
+        elif sort is Sort.IMPORTS:
+            self.send(self.hub.store.list.told(self.hub.store.imports))
+        elif sort is Sort.KNOWN:
+            self.send(self.hub.store.list.known_told(line, self.hub.store.imports))
         else:
             self.is_busy = True
             self.hub.begin(self.carried_out(sort, line))
@@ -209,10 +213,10 @@ class Client(asyncio.Protocol):
         return not works and self.hub.loop.time() - self.heard > seconds
 
 
-def with_damage(line: bytes, reply: bytes) -> bytes:
-    """A reply of a damaged store: that to STATUS says so."""
+def with_words(line: bytes, reply: bytes, words: bytes) -> bytes:
+    """A reply of a store with troubles: that to STATUS says so."""
     is_status = without_cr(line[:-1]).endswith(b" STATUS") and not reply.startswith(REFUSED)
-    return reply[:-1] + b" Damaged\n" if is_status else reply
+    return b"%s%s\n" % (reply[:-1], words) if is_status else reply
 
 
 class Hub:
@@ -235,6 +239,11 @@ class Hub:
         self.tasks: set["asyncio.Task[None]"] = set()
         self.ended: "asyncio.Future[int]" = self.loop.create_future()
         store.on_import = self.tell_watchers
+
+    def troubles(self) -> bytes:
+        """What STATUS says of an import whose line couldn't be written, and of a damaged store."""
+        return b" Unlisted" * bool(self.store.list.unwritten) + (
+            b" Damaged" * bool(self.program.damaged_at))
 
     def end(self, status: int) -> None:
         if not self.ended.done():
@@ -313,6 +322,8 @@ class Hub:
             ("bytes", "Bytes of the store's file.", store.size()),
             ("damaged", "Whether somebody was told that the store is damaged.",
              int(bool(self.program.damaged_at))),
+            ("unlisted", "Imports that have no line in the list of imports.",
+             len(store.list.missing(store.imports)) + store.list.unwritten.count(b"\n")),
             ("connections", "Connections of clients.", len(self.clients)))
         rows = self.program.metrics.text(now).encode().splitlines()
         return b"".join((*(b"ROW %s\n" % row for row in rows), b"END %d\n" % len(rows)))
@@ -356,6 +367,7 @@ class Hub:
         """Ends the program after the lines that it answers, and then the clients."""
         self.store.stop_copying()
         await self.program.stop()
+        await self.store.stop_listing()
         for client in list(self.clients):
             client.end()
         end = self.loop.time() + LAST_SECONDS

@@ -14,7 +14,7 @@ LINE_LIMIT = 4096
 # others with this word at once.)
 DIGEST = re.compile(rb"(?:AT ([0-9]{1,10}) )?DIGEST")
 # Lines that the hub carries out itself.
-BACKUP, WATCH, METRICS = b"BACKUP", b"WATCH", b"METRICS"
+BACKUP = b"BACKUP"
 # What a line is counted as, by its word.
 KINDS = {word: word.decode() for word in QUESTIONS | CHANGES | {BACKUP}}
 OTHER = "other"
@@ -34,8 +34,14 @@ class Sort(enum.Enum):
     BACKUP = enum.auto()
     WATCH = enum.auto()
     METRICS = enum.auto()
+    IMPORTS = enum.auto()
+    KNOWN = enum.auto()
     REFUSED = enum.auto()
     LONG = enum.auto()
+
+
+# The lines that anybody may ask of the hub itself.
+OWN = {name.name.encode(): name for name in (Sort.WATCH, Sort.METRICS, Sort.IMPORTS, Sort.KNOWN)}
 
 
 def without_cr(line: bytes) -> bytes:
@@ -79,8 +85,8 @@ def sort_of(line: bytes, may_change: bool) -> Sort:
     word = first_word(line)
     if word in QUESTIONS:
         return Sort.DIGEST if DIGEST.fullmatch(without_cr(line)) else Sort.QUESTION
-    if word in (WATCH, METRICS):
-        return Sort.WATCH if word == WATCH else Sort.METRICS
+    if word in OWN:
+        return OWN[word]
     if not may_change:
         return Sort.REFUSED
     return Sort.BACKUP if word == BACKUP else Sort.CHANGE

@@ -10,6 +10,7 @@ from typing import Optional
 
 from ..logs import log, tell
 from ..protocol import REFUSED
+from .imports import ENDING, FIRST_LINE, NOTHING, Hashing, ImportList, sync_folder
 from .lines import BACKUP, first_word, shown, without_cr
 from .program import HUB_SESSION, Program, ProgramEndedError
 
@@ -37,8 +38,8 @@ class Store:
     is called before one is answered."""
 
     def __init__(self, program: Program, status: bytes, path: str, command: str,
-                 merge_above: int) -> None:
-        self.program, self.path, self.command = program, path, command
+                 releases: str, merge_above: int) -> None:
+        self.program, self.path, self.command, self.releases = program, path, command, releases
         self.state = status.split()
         self.imports = int(self.state[1])
         self.on_import: Callable[[], None] = lambda: None
@@ -58,6 +59,9 @@ class Store:
         # The client's session that has begun a merge.
         self.merging: Optional[int] = None
         self.copying: Optional[Copying] = None
+        # What is known of the imports, and the release whose files are hashed.
+        self.list = ImportList(path)
+        self.hashing: Optional[Hashing] = None
 
     async def change(self, session: int, line: bytes, user: str = "hub") -> bytes:
         """The reply to a line that may change the store, once it is logged."""
@@ -75,7 +79,25 @@ class Store:
         """The reply to an import, or to the check of one, for which room is made first."""
         async with self.imports_lock:
             await self.make_room()
-            return await self.asked(session, line, user)
+            if first_word(line) != IMPORT:
+                return await self.asked(session, line, user)
+            name = without_cr(line).partition(b" ")[2]
+            self.hashing = Hashing(self.releases, name)
+            digest = asyncio.get_running_loop().run_in_executor(None, self.hashing.digest)
+            try:
+                reply = await self.asked(session, line, user)
+                if not reply.startswith(REFUSED):
+                    await self.listed(reply, name, await digest, user)
+                return reply
+            finally:
+                self.hashing.is_stopped.set()
+                self.hashing = None
+
+    async def listed(self, reply: bytes, name: bytes, digest: str, user: str) -> None:
+        """Adds the line of an import that was answered so to the list."""
+        if digest == NOTHING and self.hashing:
+            log("%s: no digest of its files: %s" % (shown(name), self.hashing.why))
+        await self.list.add(reply, name, digest, user)
 
     async def asked(self, session: int, line: bytes, user: str) -> bytes:
         """The reply to a line while nothing else changes or copies the store."""
@@ -138,7 +160,9 @@ class Store:
         """Merges between the clients' lines, whenever more segments stand than are wanted."""
         while True:
             await self.may_merge.wait()
-            self.may_merge.clear()
+            # (What has waited for an import, as a copy, comes before the merge that it calls for.)
+            async with self.imports_lock:
+                self.may_merge.clear()
             try:
                 while await self.merges_two(self.merge_above):
                     pass
@@ -187,8 +211,10 @@ class Store:
     async def copied(self, name: bytes) -> bytes:
         """Copies the store, and checks the copy: it opens, and shows what the store shows."""
         path = path_of(name)
-        async with self.changes:
+        # (Between an import and its line in the list there is no copy.)
+        async with self.imports_lock, self.changes:
             wanted = (await self.status())[:4]
+            text = self.list.text()
             self.copying = Copying(self.path, self.file, path)
             try:
                 made = await asyncio.to_thread(self.copying.copy)
@@ -196,9 +222,14 @@ class Store:
                 self.copying = None
         with contextlib.closing(made):
             found, why = await self.checked(made)
-            if found.split(b" ")[:4] != wanted:
+            try:
+                if found.split(b" ")[:4] != wanted:
+                    raise Refused("the copy is answered %s, %s" % (shown(found), shown(why)))
+                if text != FIRST_LINE:
+                    await asyncio.to_thread(copy_list, path + ENDING, text)
+            except Refused:
                 made.remove()
-                raise Refused("the copy is answered %s, %s" % (shown(found), shown(why)))
+                raise
         return b" ".join(wanted)
 
     async def checked(self, made: "NewFile") -> tuple[bytes, bytes]:
@@ -218,6 +249,13 @@ class Store:
     def stop_copying(self) -> None:
         if self.copying is not None:
             self.copying.is_stopped.set()
+
+    async def stop_listing(self) -> None:
+        """Waits no longer for a digest, and for room on the disk."""
+        if self.hashing is not None:
+            self.hashing.is_stopped.set()
+        elif self.list.unwritten:
+            await self.list.write()
 
 
 def path_of(name: bytes) -> str:
@@ -264,6 +302,33 @@ class NewFile:
             self.file.close()
 
 
+def filled(path: str, fill: Callable[[NewFile], None]) -> NewFile:
+    """Makes a new file, and syncs it and its folder. If that fails, the file is removed."""
+    try:
+        made = NewFile(path)
+        try:
+            fill(made)
+            made.sync()
+        except BaseException:
+            made.remove()
+            made.close()
+            raise
+    except OSError as why:
+        raise Refused(why.strerror or str(why)) from None
+    return made
+
+
+def copy_list(path: str, text: bytes) -> None:
+    """Makes the list of the imports that a copy has, beside it."""
+    def fill(made: NewFile) -> None:
+        made.file.write(text)
+
+    try:
+        filled(path, fill).close()
+    except Refused as why:
+        raise Refused("the list of imports: %s" % why) from None
+
+
 class Copying:
     """A copy of the store's file that is being made. It is made in a thread of its own."""
 
@@ -272,18 +337,7 @@ class Copying:
         self.is_stopped = threading.Event()
 
     def copy(self) -> NewFile:
-        """Makes a new file, and syncs it and its folder. If that fails, the file is removed."""
-        try:
-            made = NewFile(self.path)
-            try:
-                self.fill(made)
-            except BaseException:
-                made.remove()
-                made.close()
-                raise
-        except OSError as why:
-            raise Refused(why.strerror or str(why)) from None
-        return made
+        return filled(self.path, self.fill)
 
     def fill(self, made: NewFile) -> None:
         """Copies the store's file into the new one."""
@@ -293,18 +347,8 @@ class Copying:
             while part := source.read(COPY_SIZE):
                 self.go_on()
                 made.file.write(part)
-        made.sync()
         self.go_on()
 
     def go_on(self) -> None:
         if self.is_stopped.is_set():
             raise Refused("the hub ends")
-
-
-def sync_folder(path: str) -> None:
-    """Makes sure that the names in a folder are on the disk."""
-    number = os.open(path, os.O_RDONLY | os.O_DIRECTORY)
-    try:
-        os.fsync(number)
-    finally:
-        os.close(number)

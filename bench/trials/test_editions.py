@@ -1,0 +1,185 @@
+"""Tries examples/check_edition.py with the built program and made packages: it says that a sound
+one is the same everywhere, and finds what differs."""
+
+import random
+import re
+import shutil
+import subprocess
+import sys
+from collections.abc import Callable
+from pathlib import Path
+
+import pytest
+
+from harness import AROUND, SECONDS, Place
+import make_release as rf2
+
+CHECK = "examples/check_edition.py"
+ROWS, SEED = 2_500, 3
+# Words of a package that may not be in the page; a day and a count are no such words.
+WORD = re.compile(r"[^\t\n]{9,}")
+# Stands before the program, and makes one row inactive of all that is answered.
+CHANGED_ROW = """
+import subprocess, sys
+if sys.argv[1] != "serve":
+    sys.exit(subprocess.run([PROGRAM, *sys.argv[1:]]).returncode)
+real = subprocess.Popen([PROGRAM, *sys.argv[1:]], stdout=subprocess.PIPE)
+is_changed = False
+for line in real.stdout:
+    if line.startswith(b"ROW ") and b"\\t1\\t" in line and not is_changed:
+        line, is_changed = line.replace(b"\\t1\\t", b"\\t0\\t", 1), True
+    sys.stdout.buffer.write(line)
+    sys.stdout.buffer.flush()
+"""
+# Or says another digest.
+CHANGED_DIGEST = """
+import os, sys
+if sys.argv[1] == "digest":
+    print("OK " + 64 * "0")
+else:
+    os.execv(PROGRAM, [PROGRAM, *sys.argv[1:]])
+"""
+
+
+def write_snapshot(package: Path) -> None:
+    """Writes the Snapshot of a package's Full: of each file the latest row of each component."""
+    for path in (package / "Full").rglob("*.txt"):
+        head, *rows = path.read_text("utf-8").splitlines()
+        latest: dict[str, str] = {}
+        for row in sorted(rows, key=lambda row: row.split("\t")[1]):
+            latest[row.split("\t")[0]] = row
+        text = "".join(row + "\r\n" for row in (head, *latest.values()))
+        to = package / "Snapshot" / path.relative_to(package / "Full").parent
+        to.mkdir(parents=True, exist_ok=True)
+        (to / path.name.replace("Full", "Snapshot")).write_text(text, encoding="utf-8", newline="")
+
+
+@pytest.fixture(scope="module")
+def sound(tried: Place) -> Path:
+    """A sound package of all sorts of files."""
+    package = tried.path("package")
+    rf2.write_package(str(package / "Full"), rf2.Package(SEED), ROWS)
+    write_snapshot(package)
+    return package
+
+
+@pytest.fixture
+def package(place: Place, sound: Path) -> Path:
+    """A copy of it, which a trial may change."""
+    return Path(shutil.copytree(sound, place.path("edition")))
+
+
+def checked(place: Place, package: Path, *words: str) -> subprocess.CompletedProcess[str]:
+    command: list[str | Path] = [sys.executable, place.script(CHECK), "--program", place.program,
+                                 *words, place.path("new.store"), package]
+    return subprocess.run(command, capture_output=True, timeout=SECONDS, env=AROUND, text=True,
+                          check=False)
+
+
+def column(page: str, title: str) -> list[str]:
+    """What a line of the page says."""
+    found: list[str] = re.findall(rf"^{re.escape(title)}  +(.*)$", page, re.M)
+    return found[0].split() if len(found) == 1 else []
+
+
+def test_sound_package(place: Place, package: Path) -> None:
+    """All is the same, the page has the counts, and nothing of the release but days."""
+    done = checked(place, package)
+    assert done.returncode == 0, done.stdout + done.stderr
+    rows = {kind: 0 for kind in "CDRAVM"}
+    days, words = set[str](), set[str]()
+    for sort, path in rf2.files_of(package / "Full"):
+        if sort in rf2.UNKEPT_SORTS:
+            continue
+        text = path.read_text("utf-8")
+        words.update(WORD.findall(text))
+        lines = text.splitlines()[1:]
+        days.update(line.split("\t")[1] for line in lines)
+        names = {line.split("\t")[0] for line in lines}
+        rows[rf2.SORTS[sort].kind] += len(names)
+    wanted = [str(rows[kind]) for kind in "CDRAVM"]
+    assert column(done.stdout, "rows as of") == list("CDRAVM")
+    assert column(done.stdout, "Snapshot") == column(done.stdout, max(days)) == wanted
+    assert set(re.findall(r"^([0-9]{8}) ", done.stdout, re.M)) == days
+    assert column(done.stdout, "compared")[-2:] == ["0", "differ"]
+    digests = [column(done.stdout, f"digest by {who}")[0].rstrip(",")
+               for who in ("the program", "digest.py")]
+    assert digests[0] == digests[1] == place.digest(place.path("new.store"))
+    assert [word for word in words if word in done.stdout] == []
+
+
+def without_a_row(package: Path) -> None:
+    """A row is missing."""
+    path = next((package / "Snapshot").rglob("sct2_Description_*"))
+    lines = path.read_bytes().splitlines(keepends=True)
+    path.write_bytes(b"".join(lines[:-1]))
+
+
+def with_another_row(package: Path) -> None:
+    """A row is active that isn't."""
+    path = next((package / "Snapshot").rglob("der2_cRefset_Language*"))
+    path.write_bytes(path.read_bytes().replace(b"\t0\t", b"\t1\t", 1))
+
+
+def with_an_older_row(package: Path) -> None:
+    """A row is the version before the latest one."""
+    full = next((package / "Full").rglob("sct2_Concept_*"))
+    rows = [line.split("\t") for line in full.read_text("utf-8").splitlines()[1:]]
+    versions = sorted(row for row in rows if sum(row[0] == other[0] for other in rows) > 1)
+    older = versions[0]
+    later = max(row for row in versions if row[0] == older[0])
+    path = next((package / "Snapshot").rglob("sct2_Concept_*"))
+    text = path.read_text("utf-8").replace("\t".join(later), "\t".join(older))
+    path.write_text(text, encoding="utf-8", newline="")
+
+
+def without_a_file(package: Path) -> None:
+    """A sort of files is missing."""
+    next((package / "Snapshot").rglob("*OWLExpression*")).unlink()
+
+
+@pytest.mark.parametrize("change", (
+    without_a_row, with_another_row, with_an_older_row, without_a_file))
+def test_wrong_snapshots(place: Place, package: Path, change: Callable[[Path], None]) -> None:
+    """One kind differs of the Snapshot, and none as of the days of the Full."""
+    change(package)
+    done = checked(place, package, "--without-digest")
+    assert done.returncode == 1, done.stderr
+    assert column(done.stdout, "compared")[-2:] == ["1", "differ"]
+    said = " ".join(column(done.stdout, "Snapshot"))
+    assert "differ" in said or ", not " in said
+
+
+@pytest.mark.parametrize("script", (CHANGED_ROW, CHANGED_DIGEST))
+def test_wrong_programs(place: Place, package: Path, script: str) -> None:
+    """A program that answers one row wrongly, or another digest, is found out."""
+    done = checked(place.wrapped(script), package)
+    assert done.returncode == 1, done.stderr
+    assert column(done.stdout, "compared")[-2:] == ["1", "differ"]
+
+
+def test_parts(place: Place, package: Path) -> None:
+    """What doesn't fit into memory at a time is compared part by part."""
+    small = place.path("examples")
+    shutil.copytree(place.script("examples"), small / "examples")
+    (small / "service").symlink_to(place.script("service"))
+    script = small / CHECK
+    text = script.read_text("utf-8")
+    rows = random.Random(SEED).randrange(100, 300)
+    script.write_text(text.replace("ROWS_AT_A_TIME, PAGE_ROWS, READ_BYTES = 500_000, 1_000",
+                                   f"ROWS_AT_A_TIME, PAGE_ROWS, READ_BYTES = {rows}, 7"))
+    assert script.read_text("utf-8") != text
+    place.tree = small
+    done = checked(place, package, "--without-digest")
+    assert done.returncode == 0, done.stdout + done.stderr
+
+
+def test_no_package(place: Place, package: Path) -> None:
+    """What isn't a package, and a store that is there already, are told."""
+    done = checked(place, package / "Full")
+    assert (done.returncode, done.stdout) == (1, "")
+    assert done.stderr.endswith("has no folder Full\n")
+    place.path("new.store").write_bytes(b"somebody else's")
+    done = checked(place, package)
+    assert (done.returncode, done.stdout) == (1, "")
+    assert done.stderr.endswith("check_edition: init: ERR 4 NotEmpty\n")
