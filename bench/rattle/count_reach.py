@@ -39,6 +39,10 @@ METER_NAMES = re.compile(r"ensures (?:meters|cache|same_cache|keeps|capacity|loo
 # A clause that hands on what a system is to a word that says more than counts.
 HANDS_ON = re.compile(r"\bP\.stands")
 
+# What names the layout of a store, or the form of its segments; and a comment of src/.
+COMMENT = re.compile(r"//.*")
+LAYOUTS = re.compile(r"\b(?:[Ll]ayouts?|layout_number|Form|forms)\b")
+
 PROGRAM = "sctd"
 # Where the store's questions stand.
 STORE = "history_store/src"
@@ -130,6 +134,14 @@ def lines_in(folder: str, crates: Iterable[str]) -> int:
                for path in files_of(it, ending))
 
 
+def files_that_name(pattern: re.Pattern[str], folder: str, crates: Iterable[str]) -> int:
+    """How many files of a folder of these crates have the pattern outside of comments."""
+    paths = (path for crate in crates for ending in (".rt", ".antt")
+             for path in files_of(os.path.join(folder_of(crate), folder), ending))
+    texts = (without_comments(COMMENT.sub("", read(path))) for path in paths)
+    return sum(bool(pattern.search(text)) for text in texts)
+
+
 def ensured_by(name: str) -> int:
     """How many clauses say what a function ensures."""
     found = Reach((name,)).function(name)
@@ -155,6 +167,9 @@ def rows() -> Iterator[tuple[str, Any]]:
         ensured_by("history_store::Store::import"), most)
     yield "lines of the store's questions in `%s`" % STORE, sum(
         read(os.path.join(folder_of(STORE), name)).count("\n") for name in QUESTIONS)
+    yield "files of src/, specs/ and proofs/ in product crates that name a layout or a form", tuple(
+        files_that_name(LAYOUTS, folder, product_crates())
+        for folder in ("src", "specs", "proofs"))
     yield "lines of src/ in product crates", lines_in("src", product_crates())
     yield "lines of proofs/", lines_in("proofs", every_crate)
 

@@ -12,6 +12,13 @@ def tell(text: str) -> None:
         print(text, file=sys.stderr, flush=True)
 
 
+def pass_on(data: bytes) -> None:
+    """Writes what another process has said to standard error, in the same way."""
+    with contextlib.suppress(OSError):
+        sys.stderr.buffer.write(data)
+        sys.stderr.buffer.flush()
+
+
 def now() -> str:
     """The time (UTC)."""
     return time.strftime("%Y-%m-%dT%H:%M:%SZ", time.gmtime())

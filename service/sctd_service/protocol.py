@@ -15,11 +15,14 @@ QUESTIONS = frozenset((
     b"UNPIN"))
 # Those that may change the store.
 CHANGES = frozenset((b"IMPORT", b"CHECK", b"MERGE", b"STEP", b"PUBLISH", b"ABANDON", b"TRIM"))
-# The last line of a reply, and a line that stands in none.
-LAST_LINE = re.compile(rb"^(?:OK|ERR|END)(?: [^\n]*)?\n", re.MULTILINE)
-NO_LINE = re.compile(rb"^(?!(?:OK|ERR|END|ROW|ID|DATE)(?: |\n))[^\n]*\n", re.MULTILINE)
+# What follows the first word of a line, the lines of replies, and one reply.
+REST = rb"(?: [^\n]*+)?\n"
+LINES = re.compile(rb"(?:(?:OK|ERR|END|ROW|ID|DATE|NOTE)" + REST + rb")*")
+REPLY = re.compile(rb"(?:(?:ROW|ID|DATE|NOTE)" + REST + rb")*(?:OK|ERR|END)" + REST)
 # What a refusal's last line begins with.
 REFUSED = b"ERR "
+# What a line of the hub begins with that stands before the reply, in a session that asks for such.
+NOTE = b"NOTE "
 # The refusals after which the program has to be started again, and which says that the store is
 # damaged.
 DISK_FAULT, DAMAGED = b"ERR 2 ", b"ERR 8 "
@@ -43,16 +46,17 @@ class Replies:
 
     def feed(self, data: bytes) -> Iterator[bytes]:
         """The replies that are whole by now, each with all its line ends."""
-        lines, end, self.rest = (self.rest + data).rpartition(b"\n")
-        whole, start = lines + end, 0
-        if NO_LINE.search(whole):
+        data, start = self.rest + data, 0
+        end = data.rfind(b"\n") + 1
+        self.rest = data[end:]
+        if not LINES.fullmatch(data, 0, end):
             raise NotAReply
-        for last in LAST_LINE.finditer(whole):
-            yield b"".join((*self.begun, whole[start : last.end()]))
+        while found := REPLY.match(data, start, end):
+            yield b"".join((*self.begun, found[0]))
             self.begun.clear()
-            start = last.end()
-        if start < len(whole):
-            self.begun.append(whole[start:])
+            start = found.end()
+        if start < end:
+            self.begun.append(data[start:end])
 
 
 def last_line(reply: bytes) -> bytes:

@@ -195,6 +195,15 @@ class TestKnown(Asked):
         assert 'href="pin/1/changes?' in changes and 'href="changes?' not in changes
         assert self.gateway.send("GET", "/?q=138875005&known=2019-01-31").status == 404
 
+    def test_pages_at_a_pin(self) -> None:
+        """They have no field for a day, which would be refused, and neither have refusals there."""
+        for path, status in (("/", 200), ("/?q=138875005", 200), ("/changes", 200),
+                             ("/records", 200), ("/?date=x", 400), ("/?known=2020-10-15", 400)):
+            for pin in ("", "/pin/1"):
+                answer = self.gateway.send("GET", pin + path)
+                assert pin == "" or answer.status == status, path
+                assert ('name="known"' in answer.text) == (pin == ""), pin + path
+
     def test_list_of_records(self) -> None:
         carpal = self.codes["carpal"]
         for day, verdict in (("2020-10-15", "The store has no such code."), ("2021-02-15", "")):

@@ -10,12 +10,12 @@ use Rattle.history_model.proofs.Filtered.{Has-map_from}
 use Rattle.segment.specs.declared.place.RowPlace.{RowPlace}
 use Rattle.as_of_index.specs.declared.search.Start.{Start}
 use Rattle.as_of_index.specs.Places.{place_cmp}
-use Rattle.as_of_index.specs.Private.Search.{in_segment, is_before, SplitsAt, IsLeastOf, IsNext, sooner_of}
+use Rattle.as_of_index.specs.Private.Search.{in_segment, is_before, SplitsAt, IsLeastOf, IsFirstFrom, sooner_of}
 use Rattle.as_of_index.proofs.Ordered.{places_total, of_one_segment}
 
 module _ (start : Start) where
-  get_first : (list : List RowPlace) (i : ℕ) (found : Option RowPlace) → found ≡ slice_get list i → IsAscending place_cmp list → SplitsAt (is_before start) list i → IsNext start (λ p. p) list found
-  unfolding IsNext
+  get_first : (list : List RowPlace) (i : ℕ) (found : Option RowPlace) → found ≡ slice_get list i → IsAscending place_cmp list → SplitsAt (is_before start) list i → IsFirstFrom start (λ p. p) list found
+  unfolding IsFirstFrom
   get_first [] i None e up split = λ x h. absurd h
   get_first [] i (Some b) e up split = absurd (cc)
   get_first (x ∷ xs) zero None e up split = absurd (cc)
@@ -43,16 +43,16 @@ module _ (start : Start) where
         ];
       }
 
-  pub next_of_list : (list : List RowPlace) (i : ℕ) (found : Option RowPlace) → IsAscending place_cmp list → SplitsAt (is_before start) list i → found ≡ slice_get list i → IsNext start (λ p. p) list found
+  pub next_of_list : (list : List RowPlace) (i : ℕ) (found : Option RowPlace) → IsAscending place_cmp list → SplitsAt (is_before start) list i → found ≡ slice_get list i → IsFirstFrom start (λ p. p) list found
   next_of_list list i found up split e = get_first list i found e up split
 
   -- ---- several lists
 
   abbrev pub Nexts : List (ℕ × RowPlace) → Option (ℕ × RowPlace) → Type 0
-  Nexts xs best = IsNext start (λ (x : ℕ × RowPlace). x.1) xs best
+  Nexts xs best = IsFirstFrom start (λ (x : ℕ × RowPlace). x.1) xs best
 
   pub next_nothing : Nexts [] None
-  unfolding IsNext
+  unfolding IsFirstFrom
   next_nothing = λ x h. absurd h
 
   abbrev NotBelow : RowPlace → RowPlace → Type 0
@@ -84,8 +84,8 @@ module _ (start : Start) where
   still_above q p b Equal e apart h less = h (above places_total p q (places_total.congr p b q e ∙ places_total.antisymm b q ∙ ap ordering_reverse less))
   still_above q p b Greater e apart h less = h (places_total.trans q b p less (above places_total p b e))
 
-  pub next_more : (n : ℕ) (ps : List RowPlace) (xs : List (ℕ × RowPlace)) (best : Option (ℕ × RowPlace)) (found : Option RowPlace) → Nexts xs best → IsNext start (λ p. p) ps found → Nexts (xs ++ in_segment n ps) (sooner_of best n found)
-  unfolding IsNext
+  pub next_more : (n : ℕ) (ps : List RowPlace) (xs : List (ℕ × RowPlace)) (best : Option (ℕ × RowPlace)) (found : Option RowPlace) → Nexts xs best → IsFirstFrom start (λ p. p) ps found → Nexts (xs ++ in_segment n ps) (sooner_of best n found)
+  unfolding IsFirstFrom
   next_more n ps xs None None a r = λ x h. elim (Has-append_cases xs (in_segment n ps) x h) [
     | inl l ↦ a x l
     | inr t ↦ (let m = of_one_segment n ps x t in subst (λ (y : ℕ × RowPlace). is_before start y.1 ≡ true) (sym m.2) (r m.0 m.1))
@@ -93,7 +93,7 @@ module _ (start : Start) where
   next_more n ps xs (Some b) None a r = old_least n ps xs b a (λ q h c. absurd (let yes = r q h in cc))
   next_more n ps xs None (Some p) a r = new_least n ps xs p (λ x l c. absurd (let yes = a x l in cc)) r
   next_more n ps xs (Some b) (Some p) a r =
-      elim (place_cmp p b.1) as (λ t. place_cmp p b.1 ≡ t → IsNext start (λ (x : ℕ × RowPlace). x.1) (xs ++ in_segment n ps) (elim t [ Less ↦ Some (n, p) | Equal ↦ Some b | Greater ↦ Some b ])) [
+      elim (place_cmp p b.1) as (λ t. place_cmp p b.1 ≡ t → IsFirstFrom start (λ (x : ℕ × RowPlace). x.1) (xs ++ in_segment n ps) (elim t [ Less ↦ Some (n, p) | Equal ↦ Some b | Greater ↦ Some b ])) [
         | Less ↦ λ f. new_least n ps xs p (λ x l c less. a.least x l c (places_total.trans x.1 p b.1 less f)) r
         | Equal ↦ λ f. old_least n ps xs b a (λ q h c. still_above q p b.1 (place_cmp p b.1) refl (λ z. let e : Equal ≡ Less = sym f ∙ z in cc) (r.least q h c))
         | Greater ↦ λ f. old_least n ps xs b a (λ q h c. still_above q p b.1 (place_cmp p b.1) refl (λ z. let e : Greater ≡ Less = sym f ∙ z in cc) (r.least q h c))

@@ -32,7 +32,7 @@ use Rattle.history_model.proofs.Snapshots.{take-nil, IsAscending-rows_at, IsAsce
 use Rattle.segment.specs.declared.place.RowPlace.{RowPlace}
 use Rattle.segment.specs.Standing.{places_of, StandsAt}
 use Rattle.as_of_index.specs.declared.search.Start.{Start}
-use Rattle.as_of_index.specs.Private.Search.{all_places, is_before, IsNext}
+use Rattle.as_of_index.specs.Private.Search.{all_places, is_before, IsFirstFrom}
 use Rattle.as_of_index.specs.declared.search.Start.TheVariants as starts
 use Rattle.as_of_index.specs.Private.KeyOrder.{is_key_of, is_wanted, is_before_kind, is_from, IsNextWanted, is_of_imports, rows_of_imports, is_row_wanted, in_key_order}
 use Rattle.as_of_index.proofs.Standing.{row_of_place, place_of_row, stands_at, says_at}
@@ -122,12 +122,12 @@ module _ (kind : Option Kind) (after : Option Key) (start : Start) (xs : List (�
   not_passed : (p : RowPlace) → is_wanted kind after p.key ≡ true → is_before start p ≡ false
   not_passed p e = passes p ∙ ap not (from_wanted kind after p.key e)
 
-  pub none_is : IsNext start (λ (x : ℕ × RowPlace). x.1) xs None → IsNextWanted kind after xs None
-  unfolding IsNext IsNextWanted
+  pub none_is : IsFirstFrom start (λ (x : ℕ × RowPlace). x.1) xs None → IsNextWanted kind after xs None
+  unfolding IsFirstFrom IsNextWanted
   none_is n = λ y h e. let q = n y h in absurd (let r = not_passed y.1 e in cc)
 
-  pub next_is : (x : ℕ × RowPlace) → IsNext start (λ (y : ℕ × RowPlace). y.1) xs (Some x) → is_key_of kind x.1.key ≡ true → IsNextWanted kind after xs (Some x)
-  unfolding IsNext IsNextWanted
+  pub next_is : (x : ℕ × RowPlace) → IsFirstFrom start (λ (y : ℕ × RowPlace). y.1) xs (Some x) → is_key_of kind x.1.key ≡ true → IsNextWanted kind after xs (Some x)
+  unfolding IsFirstFrom IsNextWanted
   next_is x n own = record {
     there = n.there;
     wanted_so = wanted_from kind after x.1.key own (not-false (is_from kind after x.1.key) (sym (passes x.1) ∙ n.passes));
@@ -135,8 +135,8 @@ module _ (kind : Option Kind) (after : Option Key) (start : Start) (xs : List (�
   }
 
 -- one of a later kind is behind all wanted ones
-pub later_is : (kind : Option Kind) (after : Option Key) (start : Start) (xs : List (ℕ × RowPlace)) → ((p : RowPlace) → is_before start p ≡ not (is_from kind after p.key)) → (x : ℕ × RowPlace) → IsNext start (λ (y : ℕ × RowPlace). y.1) xs (Some x) → is_key_of kind x.1.key ≡ false → IsNextWanted kind after xs None
-unfolding IsNext IsNextWanted
+pub later_is : (kind : Option Kind) (after : Option Key) (start : Start) (xs : List (ℕ × RowPlace)) → ((p : RowPlace) → is_before start p ≡ not (is_from kind after p.key)) → (x : ℕ × RowPlace) → IsFirstFrom start (λ (y : ℕ × RowPlace). y.1) xs (Some x) → is_key_of kind x.1.key ≡ false → IsNextWanted kind after xs None
+unfolding IsFirstFrom IsNextWanted
 later_is None after start xs passes x n other = absurd (cc)
 later_is (Some kind) after start xs passes x n other = λ y h e.
     let own = and_parts (kind_place y.1.key.kind == kind_place kind) (is_key_after after y.1.key) e in

@@ -27,7 +27,7 @@ use Rattle.segment.specs.declared.place.RowPlace.{RowPlace}
 use Rattle.as_of_index.specs.declared.search.Start.TheVariants.{Later}
 use Rattle.segment.specs.Standing.{places_of, StandsAt}
 use Rattle.as_of_index.specs.Places.{place_cmp}
-use Rattle.as_of_index.specs.Private.Search.{all_places, is_of, IsNext, IsNextVersion, is_version_above}
+use Rattle.as_of_index.specs.Private.Search.{all_places, is_of, IsFirstFrom, IsNextVersion, is_version_above}
 use Rattle.segment.proofs.Posting.{Says}
 use Rattle.as_of_index.proofs.Standing.{place_of_row, row_of_place, stands_at}
 use Rattle.segment.proofs.Posting.{says, row_there}
@@ -60,8 +60,8 @@ id_beyond : (k kind i id : ℕ) (a : Bool) → (nat_lt k kind || (k == kind && (
 id_beyond k kind i id a e f g = grind (arith, nat_tests, e, f, g)
 
 module _ (kind : Kind) (id : ℕ) (after : Option ℕ) (xs : List (ℕ × RowPlace)) where
-  pub next_version_is : (x : ℕ × RowPlace) → IsNext (Later kind id after) (λ (y : ℕ × RowPlace). y.1) xs (Some x) → is_of kind id x.1 ≡ true → IsNextVersion kind id after xs (Some x)
-  unfolding IsNext IsNextVersion
+  pub next_version_is : (x : ℕ × RowPlace) → IsFirstFrom (Later kind id after) (λ (y : ℕ × RowPlace). y.1) xs (Some x) → is_of kind id x.1 ≡ true → IsNextVersion kind id after xs (Some x)
+  unfolding IsFirstFrom IsNextVersion
   next_version_is x n o =
       let above = later_above (kind_place x.1.key.kind) (kind_place kind) x.1.key.id id (is_above after x.1.key.time) n.passes o in
       record {
@@ -74,8 +74,8 @@ module _ (kind : Kind) (id : ℕ) (after : Option ℕ) (xs : List (ℕ × RowPla
             not_above y.1.key.time x.1.key.time (λ less. n.least y h outside (less_by_time y.1 x.1 k i less));
       }
 
-  pub next_version_other : (x : ℕ × RowPlace) → IsNext (Later kind id after) (λ (y : ℕ × RowPlace). y.1) xs (Some x) → is_of kind id x.1 ≡ false → IsNextVersion kind id after xs None
-  unfolding IsNext IsNextVersion
+  pub next_version_other : (x : ℕ × RowPlace) → IsFirstFrom (Later kind id after) (λ (y : ℕ × RowPlace). y.1) xs (Some x) → is_of kind id x.1 ≡ false → IsNextVersion kind id after xs None
+  unfolding IsFirstFrom IsNextVersion
   next_version_other x n o = λ y h e.
       let outside = version_not_passed (kind_place y.1.key.kind) (kind_place kind) y.1.key.id id (is_above after y.1.key.time) e in
       let k = kind_of_version (kind_place y.1.key.kind) (kind_place kind) y.1.key.id id (is_above after y.1.key.time) e in
@@ -90,8 +90,8 @@ module _ (kind : Kind) (id : ℕ) (after : Option ℕ) (xs : List (ℕ × RowPla
             less_by_id y.1 x.1 same (less_from_below y.1.key.id x.1.key.id (omega arith))
         by y k i le Greater e = absurd (let gt : kind_place x.1.key.kind < kind_place y.1.key.kind = ranked (kind_place y.1.key.kind) (kind_place x.1.key.kind) Greater (sym e) in omega arith)
 
-  pub next_version_none : IsNext (Later kind id after) (λ (y : ℕ × RowPlace). y.1) xs None → IsNextVersion kind id after xs None
-  unfolding IsNext IsNextVersion
+  pub next_version_none : IsFirstFrom (Later kind id after) (λ (y : ℕ × RowPlace). y.1) xs None → IsNextVersion kind id after xs None
+  unfolding IsFirstFrom IsNextVersion
   next_version_none n = λ y h e.
       let outside = version_not_passed (kind_place y.1.key.kind) (kind_place kind) y.1.key.id id (is_above after y.1.key.time) e in
       let inside = n y h in absurd (cc)

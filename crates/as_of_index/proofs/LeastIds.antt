@@ -8,7 +8,7 @@ use Rattle.history_model.specs.InOrder.{IsAscending}
 use Rattle.segment.specs.declared.place.RowPlace.{RowPlace}
 use Rattle.as_of_index.specs.declared.search.Start.TheVariants.{Components}
 use Rattle.as_of_index.specs.Places.{place_cmp}
-use Rattle.as_of_index.specs.Private.Search.{in_segment, is_before, SplitsAt, IsNext, IsNextId, id_of_kind}
+use Rattle.as_of_index.specs.Private.Search.{in_segment, is_before, SplitsAt, IsFirstFrom, IsNextId, id_of_kind}
 use Rattle.as_of_index.proofs.Following.{next_nothing, next_more, next_of_list}
 use Rattle.as_of_index.proofs.Paging.{next_id_is, next_id_other, next_id_none}
 
@@ -19,7 +19,7 @@ module _ (kind : Kind) (after : Option ℕ) where
   abbrev pub NextIds : List (ℕ × RowPlace) → Option ℕ → Type 0
   NextIds xs best = IsNextId kind after xs best
 
-  id_found : (n : ℕ) (ps : List RowPlace) (found : Option RowPlace) → IsNext (Components kind after) (λ p. p) ps found → NextIds (in_segment n ps) (id_of_kind kind found)
+  id_found : (n : ℕ) (ps : List RowPlace) (found : Option RowPlace) → IsFirstFrom (Components kind after) (λ p. p) ps found → NextIds (in_segment n ps) (id_of_kind kind found)
   id_found n ps None r = next_id_none kind after (in_segment n ps) (next_more (Components kind after) n ps [] None None (next_nothing (Components kind after)) r)
   id_found n ps (Some p) r =
       let next = next_more (Components kind after) n ps [] None (Some p) (next_nothing (Components kind after)) r in

@@ -30,7 +30,7 @@ use Rattle.as_of_index.specs.declared.as_of.AsOf.{AsOf}
 use Rattle.as_of_index.specs.declared.search.Start.TheVariants.{Components}
 use Rattle.segment.specs.Standing.{places_of}
 use Rattle.as_of_index.specs.Places.{place_cmp}
-use Rattle.as_of_index.specs.Private.Search.{all_places, is_of, is_shown, is_changed, IsNext, IsNextId, IsNextChanged, is_kind_above}
+use Rattle.as_of_index.specs.Private.Search.{all_places, is_of, is_shown, is_changed, IsFirstFrom, IsNextId, IsNextChanged, is_kind_above}
 use Rattle.as_of_index.specs.Private.Walk.{is_walked, walked}
 use Rattle.as_of_index.proofs.Standing.{place_of_row}
 use Rattle.as_of_index.specs.Current.{rows_seen}
@@ -68,8 +68,8 @@ of_itself : (k kind i : ℕ) → (k == kind && i == i) ≡ false → (k == kind)
 of_itself k kind i e = grind (arith, nat_tests, e)
 
 module _ (kind : Kind) (after : Option ℕ) (xs : List (ℕ × RowPlace)) where
-  pub next_id_is : (x : ℕ × RowPlace) → IsNext (Components kind after) (λ (y : ℕ × RowPlace). y.1) xs (Some x) → is_of kind x.1.key.id x.1 ≡ true → IsNextId kind after xs (Some x.1.key.id)
-  unfolding IsNext IsNextId
+  pub next_id_is : (x : ℕ × RowPlace) → IsFirstFrom (Components kind after) (λ (y : ℕ × RowPlace). y.1) xs (Some x) → is_of kind x.1.key.id x.1 ≡ true → IsNextId kind after xs (Some x.1.key.id)
+  unfolding IsFirstFrom IsNextId
   next_id_is x n o =
       let k : kind_place x.1.key.kind ≡ kind_place kind = kind_is _ _ _ o in
       record {
@@ -81,16 +81,16 @@ module _ (kind : Kind) (after : Option ℕ) (xs : List (ℕ × RowPlace)) where
             not_above y.1.key.id x.1.key.id (λ less. n.least y h outside (less_by_id y.1 x.1 (l ∙ sym k) less));
       }
 
-  pub next_id_other : (x : ℕ × RowPlace) → IsNext (Components kind after) (λ (y : ℕ × RowPlace). y.1) xs (Some x) → is_of kind x.1.key.id x.1 ≡ false → IsNextId kind after xs None
-  unfolding IsNext IsNextId
+  pub next_id_other : (x : ℕ × RowPlace) → IsFirstFrom (Components kind after) (λ (y : ℕ × RowPlace). y.1) xs (Some x) → is_of kind x.1.key.id x.1 ≡ false → IsNextId kind after xs None
+  unfolding IsFirstFrom IsNextId
   next_id_other x n o = λ y h e.
       let l : kind_place y.1.key.kind ≡ kind_place kind = kind_is _ _ _ e in
       let outside = kind_not_passed (kind_place y.1.key.kind) (kind_place kind) (is_above after y.1.key.id) e in
       let beyond = kind_beyond (kind_place x.1.key.kind) (kind_place kind) (is_above after x.1.key.id) n.passes (of_itself _ _ _ o) in
       n.least y h outside (less_by_kind y.1 x.1 (less_from_below (kind_place y.1.key.kind) (kind_place x.1.key.kind) (omega arith)))
 
-  pub next_id_none : IsNext (Components kind after) (λ (y : ℕ × RowPlace). y.1) xs None → IsNextId kind after xs None
-  unfolding IsNext IsNextId
+  pub next_id_none : IsFirstFrom (Components kind after) (λ (y : ℕ × RowPlace). y.1) xs None → IsNextId kind after xs None
+  unfolding IsFirstFrom IsNextId
   next_id_none n = λ y h e.
       let outside = kind_not_passed (kind_place y.1.key.kind) (kind_place kind) (is_above after y.1.key.id) e in
       let inside = n y h in absurd (cc)

@@ -13,7 +13,7 @@ use Rattle.history_model.proofs.Items.{Has-get_or, place_of_item}
 use Rattle.as_of_index.specs.declared.merging.TakenCount.{TakenCount}
 use Rattle.as_of_index.specs.Numbers.{TwoLists, number_in_both}
 use Rattle.as_of_index.specs.Merging.{PostingKind, moved, first_moved, second_moved, NoneAbove, IsMerged, count_left}
-use Rattle.as_of_index.specs.Private.Merging.{IsNext}
+use Rattle.as_of_index.specs.Private.Merging.{ComesNext}
 
 -- ---- what is there with a number
 
@@ -116,7 +116,7 @@ module _ {X : Type 0} (kind : PostingKind X) where
         }
 
     module _ (lists : TwoLists) (a b : List X) (taken more : TakenCount) (out longer : List X) (up_a : IsNonDecreasingBy kind.rank a) (up_b : IsNonDecreasingBy kind.rank b) (merged : IsMerged kind lists a b taken out) where
-      pub first_taken : IsNext kind a taken.first b taken.second → more ≡ record { first = taken.first + 1; second = taken.second }
+      pub first_taken : ComesNext kind a taken.first b taken.second → more ≡ record { first = taken.first + 1; second = taken.second }
           → ((x : X) → slice_get a taken.first ≡ Some x → longer ≡ out ++ moved kind (number_in_both lists.first lists.second) x ∷ []) → IsMerged kind lists a b more longer
       first_taken next more_is longer_is =
           let f = number_in_both lists.first lists.second in
@@ -129,7 +129,7 @@ module _ {X : Type 0} (kind : PostingKind X) where
           (subst (λ n. IsPart f g a b (suc taken.first) n longer) second
           (subst (λ l. IsPart f g a b (suc taken.first) taken.second l) (sym (longer_is next.x next.there)) part)))
 
-      pub second_taken : IsNext kind b taken.second a taken.first → more ≡ record { first = taken.first; second = taken.second + 1 }
+      pub second_taken : ComesNext kind b taken.second a taken.first → more ≡ record { first = taken.first; second = taken.second + 1 }
           → ((y : X) → slice_get b taken.second ≡ Some y → longer ≡ out ++ moved kind (number_in_both lists.second lists.first) y ∷ []) → IsMerged kind lists a b more longer
       second_taken next more_is longer_is =
           let f = number_in_both lists.first lists.second in

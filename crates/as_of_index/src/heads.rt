@@ -7,7 +7,7 @@ ghost use Rattle.as_of_index.specs.Places.{place_cmp};
 ghost use Rattle.as_of_index.specs.Private.Search.{is_before, SplitsAt};
 
 use crate::hints::{is_ahead, is_behind};
-use crate::search::{Start, place};
+use crate::search::{Start, go_on, place};
 use segment::RowPlace;
 use std::alloc::{AllocError, Global};
 
@@ -66,5 +66,19 @@ pub(crate) fn place_by_heads(list: &[RowPlace], heads: &[RowPlace], start: &Star
     match place_between(list, begin, end, start) {
         Some(number) => number,
         None => place(list, *start),
+    }
+}
+
+/// The number of the first place that `start` doesn't skip, whatever the heads and the cursor are.
+/// If everything before the cursor is skipped, it steps on from there.
+pub(crate) fn place_on(list: &[RowPlace], heads: &[RowPlace], cursor: usize, start: &Start) -> usize
+    ensures within { result ≤ length list.now }
+    ensures split { IsAscending place_cmp list.now
+        → SplitsAt (is_before start.now) list.now result }
+{
+    if is_behind(list, cursor, start) {
+        go_on(list, cursor, start)
+    } else {
+        place_by_heads(list, heads, start)
     }
 }

@@ -17,10 +17,13 @@ use crate::index::Index;
 use crate::place_list::PlaceList;
 use crate::reader::RowReader;
 use crate::search::Start;
-use crate::several::next;
+use crate::several::next_on;
 use fault_counts::ReadFault;
 use rf2_values::{Key, Kind, Row};
 use segment::RowPlace;
+
+/// A cursor at which no search begins.
+const NOWHERE: usize = usize::MAX;
 
 /// The start of a search that skips everything up to a key, if one is given, and nothing else.
 fn start_after(after: Option<Key>) -> Start
@@ -76,16 +79,17 @@ fn is_of_kind(kind: Option<Kind>, p: &RowPlace) -> bool
 }
 
 /// The first place in all lists whose key is of a kind, if one is given, and greater than `after`,
-/// if that is given; and the number of its list.
+/// if that is given; and the number of its list. The search in each list begins at its cursor.
 fn next_wanted(
     lists: &[PlaceList],
+    cursors: &mut Vec<usize>,
     kind: Option<Kind>,
     after: Option<Key>,
 ) -> Option<(usize, RowPlace)>
     ensures { IsNextWanted kind after (all_places 0 lists.now) result }
 {
     let start = start_from(kind, after);
-    match next(lists, &start) {
+    match next_on(lists, cursors, &start) {
         Some((segment, p)) if is_of_kind(kind, &p) => Some((segment, p)),
         _ => None,
     }
@@ -107,8 +111,8 @@ fn is_of_imports(p: &RowPlace, first: u32, last: u32) -> bool
 impl Index {
     /// The first `limit` rows of a kind, if one is given, whose keys are greater than `after`, if
     /// that is given, in key order, among those that the imports with numbers from `first` to
-    /// `last` were the first to bring. Makes a binary search in each list for each row between the
-    /// first and the last of these, whichever import brought it.
+    /// `last` were the first to bring. Makes a binary search in each list, and steps on from there
+    /// to the last of these, over the rows that other imports brought, too.
     fn in_key_order<R: RowReader>(
         &self,
         reader: &mut R,
@@ -123,10 +127,11 @@ impl Index {
             (Lists self.now) R.cost (R.view reader.old) (R.view reader.new) }
         ensures stays { R.stays reader.old reader.new }
     {
+        let mut cursors = vec![in self.alloc; NOWHERE; self.lists.len()]?;
         let mut rows = Vec::new(self.alloc);
         let mut latest = after;
         while rows.len() < limit as usize {
-            match next_wanted(self.lists.as_slice(), kind, latest) {
+            match next_wanted(self.lists.as_slice(), &mut cursors, kind, latest) {
                 Some((segment, at)) => {
                     let key = key_at(&at);
                     if is_of_imports(&at, first, last) {
@@ -142,7 +147,7 @@ impl Index {
     }
 
     /// The first `limit` rows whose keys are greater than `after`, if that is given, in key order,
-    /// among those that the pin shows. Makes a binary search in each list for each row.
+    /// among those that the pin shows.
     pub fn rows_after<R: RowReader>(
         &self,
         reader: &mut R,
@@ -179,9 +184,8 @@ impl Index {
         self.in_key_order(reader, Some(kind), after, limit, 0, pin)
     }
 
-    /// The same of the rows of one kind that an import was the first to bring. Makes a binary
-    /// search in each list also for each row between them that another import brought, and doesn't
-    /// read it.
+    /// The same of the rows of one kind that an import was the first to bring. Steps over the rows
+    /// between them that other imports brought, and doesn't read these.
     pub fn added<R: RowReader>(
         &self,
         reader: &mut R,

@@ -33,5 +33,5 @@ pub use per_list::PerList;
 pub use place_list::PlaceList;
 pub use place_list_builder::PlaceListBuilder;
 pub use reader::RowReader;
-pub use search::is_above;
+pub use search::{is_above, lent_at};
 pub use segment::RowPlace;

@@ -5,7 +5,7 @@ ghost use Rattle.std.specs.Prelude.{true, false, IsTrue, OnOk, vec_capacity, sli
 ghost use Rattle.std.specs.List.Sorted.{IsNonDecreasingBy};
 ghost use Rattle.as_of_index.specs.Numbers.{number_in_both};
 ghost use Rattle.as_of_index.specs.Merging.{PostingKind, moved, IsMerged, count_left};
-ghost use Rattle.as_of_index.specs.Private.Merging.{IsNext};
+ghost use Rattle.as_of_index.specs.Private.Merging.{ComesNext};
 
 use crate::numbers::Numbers;
 use std::alloc::AllocError;
@@ -47,9 +47,9 @@ pub struct MergedList<T> {
 /// Whether the next posting to merge is one of the first list: there is one, and the second list's
 /// next one isn't below it.
 fn is_first_next<T: Posting>(first: &[T], second: &[T], taken: TakenCount) -> bool
-    ensures first { result ≡ true → IsNext T.kind first.now taken.first second.now taken.second }
+    ensures first { result ≡ true → ComesNext T.kind first.now taken.first second.now taken.second }
     ensures second { result ≡ false → 0 < count_left first.now second.now taken
-        → IsNext T.kind second.now taken.second first.now taken.first }
+        → ComesNext T.kind second.now taken.second first.now taken.first }
 {
     match (first.get(taken.first), second.get(taken.second)) {
         (Some(x), Some(y)) => !y.is_below(x),

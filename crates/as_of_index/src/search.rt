@@ -9,7 +9,7 @@ ghost use Rattle.history_model.specs.Queries.{is_above};
 ghost use Rattle.as_of_index.specs.Places.{place_cmp};
 ghost use Rattle.as_of_index.specs.Private.Search.{is_under, is_of, is_before};
 ghost use Rattle.as_of_index.specs.Private.Search.{SplitsAt, stops, IsPassed, IsPick};
-ghost use Rattle.as_of_index.specs.Private.Search.{id_of_kind, later_of, lesser_of, IsNext};
+ghost use Rattle.as_of_index.specs.Private.Search.{id_of_kind, later_of, lesser_of, IsFirstFrom};
 ghost use Rattle.as_of_index.specs.Private.Search.{sooner_of};
 ghost use Rattle.as_of_index.specs.declared.search.Start.TheVariants as starts;
 
@@ -97,8 +97,8 @@ pub(crate) fn place(list: &[RowPlace], start: Start) -> usize
     list.partition_point(|p| is_before(start, p))
 }
 
-/// A reference to the place with this number, if there is one.
-pub(crate) fn lent_at(list: &[RowPlace], i: usize) -> Option<&RowPlace>
+/// A reference to the item with this number, if there is one.
+pub fn lent_at<T>(list: &[T], i: usize) -> Option<&T>
     ensures { option_copied result ≡ slice_get list.now i }
 {
     list.get(i)
@@ -233,7 +233,7 @@ pub(crate) fn nth_place(list: &[RowPlace], i: usize) -> Option<RowPlace>
 
 /// The first place of the list that `start` doesn't skip.
 pub(crate) fn next_in(list: &[RowPlace], start: Start) -> Option<RowPlace>
-    ensures { IsAscending place_cmp list.now → IsNext start (λ p. p) list.now result }
+    ensures { IsAscending place_cmp list.now → IsFirstFrom start (λ p. p) list.now result }
 {
     let first = place(list, start);
     nth_place(list, first)

@@ -1,11 +1,12 @@
 //! Searches several lists of places, by a binary search in each.
 
 ghost use Rattle.as_of_index.specs.Private.Search.{all_places, IsPick};
-ghost use Rattle.as_of_index.specs.Private.Search.{IsNext, IsNextVersion};
+ghost use Rattle.as_of_index.specs.Private.Search.{IsFirstFrom, IsNextVersion};
 
 use crate::as_of::AsOf;
+use crate::heads::place_on;
 use crate::place_list::PlaceList;
-use crate::search::{Start, is_of, later, latest_before, next_in, place_near, sooner};
+use crate::search::{Start, is_of, later, latest_before, next_in, nth_place, place_near, sooner};
 use rf2_values::{EffectiveTime, Kind};
 use segment::RowPlace;
 
@@ -37,9 +38,41 @@ pub(crate) fn latest(
     best
 }
 
+/// The first place of the list that `start` doesn't skip. The search begins at the cursor, if
+/// everything before that is skipped, and leaves it there where it ends.
+fn next_at(list: &PlaceList, cursor: &mut usize, start: &Start) -> Option<RowPlace>
+    ensures { IsFirstFrom start.now (λ p. p) list.now result }
+{
+    let places = list.places();
+    let first = place_on(places, list.heads(), *cursor, start);
+    *cursor = first;
+    nth_place(places, first)
+}
+
+/// The first place in all lists that `start` doesn't skip, and the number of its list. It finds the
+/// same whatever the cursors are; if they are where the last search ended, and the first place that
+/// this one doesn't skip is the next one, few places are looked at.
+pub(crate) fn next_on(
+    lists: &[PlaceList],
+    cursors: &mut Vec<usize>,
+    start: &Start,
+) -> Option<(usize, RowPlace)>
+    ensures { IsFirstFrom start.now (λ x. x.1) (all_places 0 lists.now) result }
+{
+    let mut best = None;
+    for (segment, list) in lists.iter().enumerate() {
+        let found = match cursors.get_mut(segment) {
+            Some(cursor) => next_at(list, cursor, start),
+            None => next_in(list.places(), *start),
+        };
+        best = sooner(best, segment, found);
+    }
+    best
+}
+
 /// The first place in all lists that `start` doesn't skip, and the number of its list.
 pub(crate) fn next(lists: &[PlaceList], start: &Start) -> Option<(usize, RowPlace)>
-    ensures { IsNext start.now (λ x. x.1) (all_places 0 lists.now) result }
+    ensures { IsFirstFrom start.now (λ x. x.1) (all_places 0 lists.now) result }
 {
     let mut best = None;
     for (segment, list) in lists.iter().enumerate() {

@@ -145,9 +145,9 @@ pub record IsWorkOnDisk {D : Type 0} (host : HostView D) (view : D → DiskView)
   pub opening : IsOpening had view disk
   pub does : OnStore (IsWorkDone host view work) had left ended streams
 
--- the store was made on this disk, and the lines were served from it
+-- a store of layout 3 was made on this disk, and the lines were served from it
 pub record IsServingNew {D : Type 0} (source : SourceView) (view : D → DiskView) (disk left : D)
     (ended : Result Ending ServeFault) (streams : Streams) : Type 0 where
   pub had : StoreOr D
-  pub making : IsMaking layouts.Two had view disk
+  pub making : IsMaking layouts.Three had view disk
   pub does : OnStore (IsInputServed holds.Nothing source view) had left ended streams

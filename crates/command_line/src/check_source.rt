@@ -10,7 +10,7 @@ use crate::warning::{outline_of, tell_uncompared, tell_warnings};
 use disk_model::Disk;
 use history_store::{Refusal, Store};
 use import_check::{Release, Scope};
-use line_server::{ServeFault, Source, SourceFault, scope_for};
+use line_server::{ServeFault, Source, SourceFault};
 use std::alloc::Global;
 use std::io::{self, Write};
 
@@ -57,7 +57,7 @@ impl<H: Host, E: Write> CheckSource<'_, H, E> {
             return;
         }
         // Messages about the folder were printed when it was read the first time.
-        let scope = scope_for(store);
+        let scope = store.scope();
         let again = self
             .folder
             .host
@@ -102,7 +102,7 @@ impl<H: Host, E: Write> CheckSource<'_, H, E> {
         if self.refused.is_none() {
             return;
         }
-        let scope = scope_for(store);
+        let scope = store.scope();
         let Ok(files) = files_without_bytes(alloc, &release.files) else {
             self.tell_one(alloc, name, scope);
             return;

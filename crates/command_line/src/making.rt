@@ -21,7 +21,7 @@ pub(crate) fn init<D: Disk + Drop, O: Write>(
     ensures { IsMade layout D.view disk result.1
         (report result.0 (O.contents output.old) (O.contents output.new)) }
 {
-    match Store::create_in(alloc, disk, layout) {
+    match Store::create(alloc, disk, layout) {
         Ok(store) => (tell_done(alloc, output), store.close()),
         Err((refusal, disk)) => (refuse(alloc, output, refusal), disk),
     }

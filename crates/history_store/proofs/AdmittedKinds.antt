@@ -19,7 +19,7 @@ use Rattle.import_check.specs.declared.found.NewRows.{NewRows}
 use Rattle.import_check.specs.Release.{SpellFiles}
 use Rattle.import_check.specs.NewRows.{BringsByKey}
 use Rattle.store_image.specs.Kept.{HasKind, AreOfLayout}
-use Rattle.history_store.specs.Prepared.{IsForLater}
+use Rattle.history_store.specs.Prepared.{IsForLater, scope_in}
 
 -- a stamped row is one of the rows, with the number
 pub of_stamped : (k : ℕ) (rows : List RowValue) (s : StampedRow) → Has (stamped k rows) s → Has rows s.row × (s.import ≡ k)
@@ -66,7 +66,7 @@ none_at_all (f ∷ files) (suc i) past none (inr there) = none_at_all files i (o
 
 -- ---- and the next layout has it, where the release isn't for a later one
 
-fits : (layout : Layout) (release : Release) (kind : Kind) → (IsForLater layout release → ⊥) → Has (map (λ (file : ReleaseFile). file.kind) release.files.items) kind → HasKind (next_layout layout) kind
+fits : (layout : Layout) (release : Release) (kind : Kind) → (IsForLater (scope_in layout) release → ⊥) → Has (map (λ (file : ReleaseFile). file.kind) release.files.items) kind → HasKind (next_layout layout) kind
 fits layouts.One release kinds.Concept not_later has = tt
 fits layouts.One release kinds.Description not_later has = tt
 fits layouts.One release kinds.Relationship not_later has = tt
@@ -81,7 +81,7 @@ fits layouts.Two release kinds.Concrete not_later has = tt
 fits layouts.Two release kinds.Member not_later has = absurd (not_later has)
 fits layouts.Three release kind not_later has = tt
 
-pub admitted_kinds : {may_be : RowValue → Type 0} (layout : Layout) (release : Release) (known : List RowValue) (fresh : NewRows) (k : ℕ) → (IsForLater layout release → ⊥) → BringsByKey known may_be release fresh → AreOfLayout (next_layout layout) (stamped k fresh.rows.items)
+pub admitted_kinds : {may_be : RowValue → Type 0} (layout : Layout) (release : Release) (known : List RowValue) (fresh : NewRows) (k : ℕ) → (IsForLater (scope_in layout) release → ⊥) → BringsByKey known may_be release fresh → AreOfLayout (next_layout layout) (stamped k fresh.rows.items)
 admitted_kinds layout release known fresh k not_later brings = All-from_recursion Fits (stamped k fresh.rows.items) (all_from_has Fits (stamped k fresh.rows.items) each) where
   Fits : StampedRow → Type 0
   Fits s = HasKind (next_layout layout) (kind_of s.row)

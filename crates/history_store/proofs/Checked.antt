@@ -24,7 +24,7 @@ use Rattle.history_store.specs.declared.checking.Next.TheVariants as nexts
 use Rattle.history_store.specs.Catalog.{Catalog, IsCatalogAfter, catalog_of}
 use Rattle.history_store.specs.Stored.{IsStored}
 use Rattle.history_store.specs.StoreValue.{StoreValue, IsAcknowledged}
-use Rattle.history_store.specs.Prepared.{IsNotSpent, IsForLater, IsAdmitted}
+use Rattle.history_store.specs.Prepared.{IsNotSpent, IsForLater, IsAdmitted, scope_of}
 use Rattle.history_store.specs.Meters.{IsMeteredReading}
 use Rattle.store_image.specs.Images.{Represents}
 use Rattle.history_store.specs.Answers.{Counts, CountsRefusal, IsRefusedFor, IsNotTaken, IsNotTakenByKey, WouldBeTakenByKey, ReadsStored, IsRefused, IsStill, IsImportOnAnyDisk}
@@ -78,10 +78,10 @@ module _ {D : Type 0} (honest : Type 0) (may_be : RowValue → Type 0) (s : Stor
 -- ---- what is ready
 
 -- a release is read once it is known that the counts have room and that it isn't for a later layout
-pub admitted : (h : History) (catalog : Catalog) (release : Release) (later : Bool) → IsNotSpent h.imports catalog.epoch → (IsTrue later ↔ IsForLater catalog.layout release) → later ≡ false → IsAdmitted h catalog release
+pub admitted : (h : History) (catalog : Catalog) (release : Release) (later : Bool) → IsNotSpent h.imports catalog.epoch → (IsTrue later ↔ IsForLater (scope_of catalog) release) → later ≡ false → IsAdmitted h catalog release
 admitted h catalog release later room tests isn_t = record { room = room; not_later = λ is. absurd (false≢true (sym isn_t ∙ tests.1 is)) }
 
-pub not_later : {D : Type 0} (u old : StoreValue D) (release : Release) → u ≡ old → IsAdmitted u.history u.catalog release → IsForLater old.catalog.layout release → ⊥
+pub not_later : {D : Type 0} (u old : StoreValue D) (release : Release) → u ≡ old → IsAdmitted u.history u.catalog release → IsForLater (scope_of old.catalog) release → ⊥
 not_later {D} u old release first admits = (subst (λ (x : StoreValue D). IsAdmitted x.history x.catalog release) first admits).not_later
 
 pub ready_at : {D : Type 0} {may_be : RowValue → Type 0} (honest : Type 0) (u old w mid : StoreValue D) (release : Release) (fresh : NewRows) (next : Next) (number new : ℕ) → u ≡ old → IsAdmitted u.history u.catalog release → w ≡ mid → IsHistory w.history → IsStill old mid
@@ -169,7 +169,7 @@ module _ {D : Type 0} (view : D → DiskView) (old mid : StoreValue D) (release 
   -- what the reading of known rows leaves
   pub record HasRead : Type 0 where
     pub still : IsStill old mid
-    pub not_later : IsForLater old.catalog.layout release → ⊥
+    pub not_later : IsForLater (scope_of old.catalog) release → ⊥
     pub acknowledged : (view mid.disk).is_honest → mid.needs_reopen ≡ false → IsAcknowledged view mid
     pub fresh : NewRows
     pub meters : IsMeteredReading (Ok fresh) release view old mid

@@ -19,7 +19,7 @@ use Rattle.history_store.specs.declared.refusal.Refusal.{Refusal}
 use Rattle.history_store.specs.declared.refusal.Refusal.TheVariants as refusals
 use Rattle.history_store.specs.Catalog.{Catalog, HasNoEntry, HasNoPlace}
 use Rattle.history_store.specs.StoreValue.{StoreValue, last_import, last_epoch}
-use Rattle.history_store.specs.Prepared.{IsNotSpent, IsForLater, IsAdmitted}
+use Rattle.history_store.specs.Prepared.{IsNotSpent, IsForLater, IsAdmitted, scope_of}
 use Rattle.history_store.specs.Answers.{AnyRow, IsTakenByKey, IsNotTakenByKey, LacksByKey, IsRefusedFor, IsImportOnAnyDisk, WouldBeTakenByKey}
 use Rattle.history_store.specs.Checking.{DependsOnReading, CheckedIsImportedOnAnyDisk}
 use Rattle.history_store.proofs.Foreseen.{not_both, was_read, has_entry, has_place}
@@ -42,7 +42,7 @@ lacks_any {may_be} {h} {catalog} {release} why = record { room = why.room; fresh
 -- why it is refused
 abbrev IsOutByKey : Refusal → History → Catalog → Release → Type 0
 IsOutByKey refusals.CountSpent h catalog release = (h.imports ≡ last_import) ⊎ (catalog.epoch ≡ last_epoch)
-IsOutByKey refusals.LaterVersion h catalog release = IsNotSpent h.imports catalog.epoch × IsForLater catalog.layout release
+IsOutByKey refusals.LaterVersion h catalog release = IsNotSpent h.imports catalog.epoch × IsForLater (scope_of catalog) release
 IsOutByKey (refusals.Line file line fault) h catalog release = IsAdmitted h catalog release × IsFaultOfRelease release file line fault
 IsOutByKey refusals.TooManySegments h catalog release = LacksByKey AnyRow h catalog release HasNoEntry
 IsOutByKey refusals.Full h catalog release = LacksByKey AnyRow h catalog release HasNoPlace

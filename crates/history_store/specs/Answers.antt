@@ -27,7 +27,7 @@ use Rattle.history_store.specs.declared.refusal.Refusal.{Refusal}
 use Rattle.history_store.specs.declared.refusal.Refusal.TheVariants as refusals
 use Rattle.history_store.specs.Catalog.{Catalog, IsCatalogAfter, HasNoEntry, HasNoPlace, catalog_of}
 use Rattle.history_store.specs.StoreValue.{StoreValue, last_import, last_epoch}
-use Rattle.history_store.specs.Prepared.{IsNotSpent, IsForLater, IsAdmitted}
+use Rattle.history_store.specs.Prepared.{IsNotSpent, IsForLater, IsAdmitted, scope_of}
 use Rattle.history_store.specs.Written.{added_ranges, StemsWithinAll}
 use Rattle.history_store.specs.Refusals.{of_loading}
 
@@ -190,7 +190,7 @@ WhyNotTaken Lacks Contradicts Fails Damaged h catalog release refusals.DiskFault
 WhyNotTaken Lacks Contradicts Fails Damaged h catalog release refusals.CountSpent =
     (h.imports ≡ last_import) ⊎ (catalog.epoch ≡ last_epoch)
 WhyNotTaken Lacks Contradicts Fails Damaged h catalog release refusals.LaterVersion =
-    IsNotSpent h.imports catalog.epoch × IsForLater catalog.layout release
+    IsNotSpent h.imports catalog.epoch × IsForLater (scope_of catalog) release
 WhyNotTaken Lacks Contradicts Fails Damaged h catalog release (refusals.Line file line fault) =
     IsAdmitted h catalog release × IsFaultOfRelease release file line fault
 WhyNotTaken Lacks Contradicts Fails Damaged h catalog release (refusals.Contradiction file line) =

@@ -10,7 +10,7 @@ use Rattle.history_store.specs.Catalog.{Catalog}
 use Rattle.rf2_values.specs.Row.{RowValue}
 use Rattle.history_store.specs.Stored.{IsStored}
 use Rattle.history_store.specs.StoreValue.{StoreValue, IsAcknowledged}
-use Rattle.history_store.specs.Prepared.{IsNotSpent, IsForLater}
+use Rattle.history_store.specs.Prepared.{IsNotSpent, IsForLater, scope_of}
 use Rattle.history_store.specs.Meters.{IsMeteredReading}
 use Rattle.history_store.specs.Answers.{AnyRow, IsTakenAs, IsTakenByKey, IsRefused, IsStill}
 use Rattle.history_store.specs.Answers.{IsRefusedFor, IsNotTaken, IsNotTakenByKey}
@@ -46,7 +46,7 @@ pub record IsChecking {D : Type 0} (result : Result Receipt Refusal) (release : 
   pub answer : (view old.disk).is_honest → IsCheckingOf result old new release
   pub kept : IsCheckingOnAnyDisk (IsStored view old) result old new release
   pub closed : old.needs_reopen ≡ true → new ≡ old
-  pub later : IsForLater old.catalog.layout release → new ≡ old
+  pub later : IsForLater (scope_of old.catalog) release → new ≡ old
   pub acknowledged : (view old.disk).is_honest → new.needs_reopen ≡ false → IsAcknowledged view new
   pub meters : IsMeteredReading result release view old new
 
@@ -87,7 +87,7 @@ CheckedIsImportedOnAnyDisk D = (old checked new : StoreValue D) (release : Relea
 -- the store is open, its counts aren't spent, and the release is for a later layout
 abbrev pub IsTooEarly : {D : Type 0} → StoreValue D → Release → Type 0
 IsTooEarly s release = (s.needs_reopen ≡ false)
-    × IsNotSpent s.history.imports s.catalog.epoch × IsForLater s.catalog.layout release
+    × IsNotSpent s.history.imports s.catalog.epoch × IsForLater (scope_of s.catalog) release
 
 -- Exactly then an import and a check are refused with `LaterVersion`, on every disk.
 abbrev pub LaterIsRefused : Type 0 → Type 0

@@ -10,7 +10,7 @@ use crate::counting::{blocks_in_use, row_count};
 use crate::known::find_new_rows;
 use crate::latest::latest_time;
 use crate::merge_in_progress::MergeInProgress;
-use crate::preparing::Prepared;
+use crate::preparing::{Prepared, scope_in};
 use crate::read_index::ReadIndex;
 use crate::reading::DiskRows;
 use crate::refusal::Refusal;
@@ -20,7 +20,7 @@ use blocks::{BlockCache, Slot};
 use directory::{Directory, Layout};
 use disk_model::Disk;
 use history_model::Receipt;
-use import_check::{ImportFault, NewRows, Release};
+use import_check::{ImportFault, NewRows, Release, Scope};
 use rf2_rows::EffectiveTime;
 use segment_index::StoreIndex;
 use std::alloc::Global;
@@ -74,7 +74,7 @@ impl<D: Disk> Store<D> {
     ghost use Rattle.store_image.specs.Images.{Represents, RepresentsAs};
     ghost use Rattle.store_image.specs.Next.{IsRepeated};
     ghost use Rattle.history_store.specs.Catalog.{catalog_of, blocks_in_use};
-    ghost use Rattle.history_store.specs.Prepared.{IsForLater};
+    ghost use Rattle.history_store.specs.Prepared.{IsForLater, scope_of};
     ghost use Rattle.history_store.specs.Private.StoreValue.{directory_of, with_imports, with_rows};
     ghost use Rattle.history_store.specs.Private.Prepared.{IsPreparedFor};
     ghost use Rattle.blocks.specs.Outside.{SameOutside, StemsWithin};
@@ -94,23 +94,14 @@ impl<D: Disk> Store<D> {
     ghost use Rattle.history_store.specs.Queries.{ForgetsWritten};
     ghost use Rattle.history_store.specs.Stored.{IsStored};
 
-    /// Makes a store of layout 2 on an empty disk, as `create_in` does.
-    pub fn create(alloc: Global, disk: D) -> Result<Store<D>, (Refusal, D)>
+    /// Makes a store with this layout on an empty disk. First asks for the disk's length, then
+    /// allocates all memory, then writes.
+    pub fn create(alloc: Global, disk: D, layout: Layout) -> Result<Store<D>, (Refusal, D)>
         // promise: a_refusal_names_its_cause, what_is_cached_is_not_read_again
         // promise: a_crash_leaves_the_old_or_the_new, few_calls_reach_the_disk
         // promise: a_failed_disk_is_told, a_new_store_is_empty
-        ensures made { IsMaking layouts.Two result D.view disk }
-        // promise: few_calls_reach_the_disk
-        ensures meters { IsMeteredMaking result D.view disk }
-    {
-        Store::create_in(alloc, disk, Layout::Two)
-    }
-
-    /// Makes a store with this layout on an empty disk. First asks for the disk's length, then
-    /// allocates all memory, then writes.
-    pub fn create_in(alloc: Global, disk: D, layout: Layout) -> Result<Store<D>, (Refusal, D)>
-        // promise: a_new_store_is_empty
         ensures made { IsMaking layout result D.view disk }
+        // promise: few_calls_reach_the_disk
         ensures meters { IsMeteredMaking result D.view disk }
     {
         let mut disk = disk;
@@ -302,7 +293,7 @@ impl<D: Disk> Store<D> {
         ensures kept { IsImportOnAnyDisk (IsStored D.view self.old) result self.old self.new
             release }
         // A store below layout 3 is left unchanged, if the release has members of reference sets.
-        ensures later { IsForLater self.old.catalog.layout release → self.new ≡ self.old }
+        ensures later { IsForLater (scope_of self.old.catalog) release → self.new ≡ self.old }
         // A crash at any moment leaves the history from before in the layout from before, or the
         // history with the release in the next layout; after `Ok` it leaves the latter.
         // promise: a_crash_leaves_the_old_or_the_new, a_failed_disk_is_told
@@ -346,6 +337,14 @@ impl<D: Disk> Store<D> {
         ensures { result ≡ self.now.history.imports }
     {
         self.directory.imports()
+    }
+
+    /// Which files of a release the store keeps.
+    pub fn scope(&self) -> Scope
+        // promise: files_are_taken_by_their_names
+        ensures { result ≡ scope_of self.now.catalog }
+    {
+        scope_in(self.directory.layout())
     }
 
     /// The number of the layout on the disk: 1 for a store that was made in layout 1 and has

@@ -7,7 +7,8 @@ use Rattle.line_commands.specs.declared.unread.Unread.{Unread}
 use Rattle.line_commands.specs.declared.unread.Unread.TheVariants as unread
 use Rattle.line_commands.specs.Requests.{IsUnread}
 use Rattle.line_server.specs.declared.refusal.LineRefusal.{LineRefusal}
-use Rattle.line_server.specs.Sources.{Releases, SourceView, source_view, scope_of}
+use Rattle.history_store.specs.Prepared.{scope_of}
+use Rattle.line_server.specs.Sources.{Releases, SourceView, source_view}
 use Rattle.line_server.specs.ReplyValue.{Answer}
 use Rattle.line_server.specs.Replies.{Server, Replies}
 use Rattle.store_life.specs.Life.{Call, Imported, Failed, Other}
@@ -38,7 +39,7 @@ module _ {D : Type 0} (outcome : Result Answer LineRefusal) (call : Call) (old n
   goes_alike : (view : D → DiskView) (releases : Releases) (x y : List ℕ) → 4096 < length x → 4096 < length y → GoesBy view releases old (turn_of x) new → GoesBy view releases old (turn_of y) new
   goes_alike view releases x y long other g = record {
     replies = replies_alike (view old.store.disk).is_honest releases x y long other g.replies;
-    asked = asked_alike releases (scope_of old.store.catalog.layout) x y call long g.asked;
+    asked = asked_alike releases (scope_of old.store.catalog) x y call long g.asked;
     disk = λ session command asks. let short = asks.short in absurd (omega (arith, short, other));
   }
 

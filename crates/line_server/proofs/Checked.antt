@@ -18,7 +18,7 @@ use Rattle.line_server.specs.declared.refusal.LineRefusal.TheVariants as refusal
 use Rattle.line_server.specs.declared.source.SourceFault.{SourceFault}
 use Rattle.line_server.specs.declared.source.SourceFault.TheVariants as faults
 use Rattle.import_check.specs.declared.scope.Scope.{Scope}
-use Rattle.line_server.specs.Sources.{Releases, SourceView, IsGiven, of_source, scope_of}
+use Rattle.line_server.specs.Sources.{Releases, SourceView, IsGiven, of_source}
 use Rattle.line_server.specs.ReplyValue.{Answer, Done, ReplyValue, reply_value}
 use Rattle.line_server.specs.StateValue.{StateValue, HoldsBack}
 use Rattle.line_server.specs.Replies.{IsChecked, IsStoreRefusal, import_words, server}
@@ -28,6 +28,7 @@ use Rattle.line_server.specs.Private.{IsResponse}
 use Rattle.store_life.proofs.Made.{check_made, unmade}
 use Rattle.line_server.proofs.Importing.{same_server, refused_imports}
 use Rattle.history_store.proofs.AnyStored.{check_any}
+use Rattle.history_store.specs.Prepared.{scope_of}
 use Rattle.line_server.proofs.KnownRead.{none_known, known_of, compares_of, refused_compared}
 use Rattle.line_server.proofs.Queried.{carried_out, refused_as, refused_by, lack_is_no_fault}
 
@@ -45,7 +46,7 @@ module _ {D : Type 0} (source : SourceView) (view : D → DiskView) (name : List
       (unmade view s) refl (unread s, none_known view source.releases name 0 s, λ release has. tt) (λ h. (unread s, none_known view source.releases name 0 s, λ release has. tt)) (omega arith)
 
   -- it has no release under the name
-  missing : (s : StoreValue D) → (source.is_honest → source.releases (scope_of s.catalog.layout) name ≡ None) → IsResponse (Err refusals.NoFolder) source view session (Check name) (server state s) (server state s)
+  missing : (s : StoreValue D) → (source.is_honest → source.releases (scope_of s.catalog) name ≡ None) → IsResponse (Err refusals.NoFolder) source view session (Check name) (server state s) (server state s)
   missing s none =
       carried_out source view (Err refusals.NoFolder) session (Check name) (Err refusals.NoFolder) Other (server state s) (server state s) (λ k n. None) refl
       (λ line asks. record { replies = inl (session, Check name, asks, inr (inr (record { free = free; has_layout = λ later. later; comes_out = (name, refl, refl, refl); damage = refl }))); asked = tt })
@@ -53,17 +54,17 @@ module _ {D : Type 0} (source : SourceView) (view : D → DiskView) (name : List
       (unmade view s) refl (unread s, none_known view (λ k n. None) name 0 s, λ release has. tt) (λ h. (unread s, none_known view source.releases name 0 s, λ release has. tt)) (omega arith)
 
   -- no release was had, for this reason
-  pub unhad : (s : StoreValue D) (scope : Scope) → scope ≡ scope_of s.catalog.layout → (fault : SourceFault) → (source.is_honest → IsGiven (Err fault) (source.releases scope name)) → IsResponse (Err (of_source fault)) source view session (Check name) (server state s) (server (refused_as (of_source fault) state) s)
+  pub unhad : (s : StoreValue D) (scope : Scope) → scope ≡ scope_of s.catalog → (fault : SourceFault) → (source.is_honest → IsGiven (Err fault) (source.releases scope name)) → IsResponse (Err (of_source fault)) source view session (Check name) (server state s) (server (refused_as (of_source fault) state) s)
   unhad s scope is faults.OutOfMemory given = lacking s
   unhad s scope is faults.NoFolder given = missing s (λ h. ap (λ (k : Scope). source.releases k name) (sym is) ∙ given h)
 
-  module _ (old new : StoreValue D) (release : Release) (scope : Scope) (scope_is : scope ≡ scope_of old.catalog.layout) (had : source.is_honest → source.releases scope name ≡ Some (files_of release)) where
-    -- what was given, in the scope of the store's layout
-    given : source.is_honest → source.releases (scope_of old.catalog.layout) name ≡ Some (files_of release)
+  module _ (old new : StoreValue D) (release : Release) (scope : Scope) (scope_is : scope ≡ scope_of old.catalog) (had : source.is_honest → source.releases scope name ≡ Some (files_of release)) where
+    -- what was given, in the store's scope
+    given : source.is_honest → source.releases (scope_of old.catalog) name ≡ Some (files_of release)
     given h = ap (λ (k : Scope). source.releases k name) (sym scope_is) ∙ had h
 
     -- whatever came of it, the disk was left so
-    left : {result : Result Receipt Refusal} (outcome : Result Answer LineRefusal) → IsComparedWith (full old.history) (IsStored view old) release outcome → (releases : Releases) → releases (scope_of old.catalog.layout) name ≡ Some (files_of release) → IsChecking result release view old new
+    left : {result : Result Receipt Refusal} (outcome : Result Answer LineRefusal) → IsComparedWith (full old.history) (IsStored view old) release outcome → (releases : Releases) → releases (scope_of old.catalog) name ≡ Some (files_of release) → IsChecking result release view old new
         → LeavesQueried view old new × ReadsKnownOf view releases name 0 old new × ComparesStored view releases name outcome old
     left outcome compared releases has c =
         ((c.meters.counts.moments, c.meters.looked_up, c.meters.counts.other_calls), known_of view 0 old new release releases name has c.meters.known, compares_of view old release releases name outcome has compared)
@@ -98,7 +99,7 @@ module _ {D : Type 0} (source : SourceView) (view : D → DiskView) (name : List
           compared : IsComparedWith (full old.history) (IsStored view old) release (Err (refusals.Store e))
           compared = refused_compared (IsStored view old) ⊥ old release e c.kept.0
 
-          refused : (releases : Releases) (r : Refusal) → r ≡ e → releases (scope_of old.catalog.layout) name ≡ Some (files_of release) → IsStoreRefusal (view old.disk).is_honest releases session (Check name) r (server state old) (server (refused_by e state) new)
+          refused : (releases : Releases) (r : Refusal) → r ≡ e → releases (scope_of old.catalog) name ≡ Some (files_of release) → IsStoreRefusal (view old.disk).is_honest releases session (Check name) r (server state old) (server (refused_by e state) new)
           refused releases store.OutOfMemory is has_it =
               record { pins = refl; store = record { history = c.kept.1.history; catalog = c.kept.1.catalog; needs_reopen = c.kept.1.still (λ f. lack_is_no_fault (is ∙ f)) } }
           refused releases r is has_it =

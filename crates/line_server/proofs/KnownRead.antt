@@ -15,8 +15,9 @@ use Rattle.line_server.specs.declared.refusal.LineRefusal.TheVariants as refusal
 use Rattle.line_server.specs.ReplyValue.{Answer}
 use Rattle.history_store.specs.StoreValue.{StoreValue}
 use Rattle.store_life.proofs.AlikeReleases.{release_alike, read_alike, brought_alike, possible_alike}
-use Rattle.line_server.specs.Sources.{Releases, scope_of}
+use Rattle.line_server.specs.Sources.{Releases}
 use Rattle.history_store.specs.Meters.{ReadsKnown}
+use Rattle.history_store.specs.Prepared.{scope_of}
 use Rattle.line_server.specs.Turns.{ReadsKnownOf, IsComparedWith, ComparesStored}
 
 -- a line that is refused as a contradiction
@@ -37,16 +38,16 @@ module _ {D : Type 0} (view : D → DiskView) where
   none_known releases name besides s release has = record { bytes_read = λ rows is. omega arith; bytes_unread = λ unread. omega arith }
 
   -- what holds for a release holds for each with the same files
-  pub known_of : (besides : ℕ) (old new : StoreValue D) (release : Release) (releases : Releases) (name : List ℕ) → releases (scope_of old.catalog.layout) name ≡ Some (files_of release) → ReadsKnown view besides release old new
+  pub known_of : (besides : ℕ) (old new : StoreValue D) (release : Release) (releases : Releases) (name : List ℕ) → releases (scope_of old.catalog) name ≡ Some (files_of release) → ReadsKnown view besides release old new
       → ReadsKnownOf view releases name besides old new
   known_of besides old new release releases name has reads other also =
-      let same : files_of other ≡ files_of release = one_value (releases (scope_of old.catalog.layout) name) (files_of other) (files_of release) also has in
+      let same : files_of other ≡ files_of release = one_value (releases (scope_of old.catalog) name) (files_of other) (files_of release) also has in
       record {
         bytes_read = λ rows is. reads.bytes_read rows (release_alike other release same is);
         bytes_unread = λ unread. reads.bytes_unread (λ is. unread (read_alike release other (sym same) is));
       }
 
-  pub compares_of : (old : StoreValue D) (release : Release) (releases : Releases) (name : List ℕ) (outcome : Result Answer LineRefusal) → releases (scope_of old.catalog.layout) name ≡ Some (files_of release) → IsComparedWith (full old.history) (IsStored view old) release outcome
+  pub compares_of : (old : StoreValue D) (release : Release) (releases : Releases) (name : List ℕ) (outcome : Result Answer LineRefusal) → releases (scope_of old.catalog) name ≡ Some (files_of release) → IsComparedWith (full old.history) (IsStored view old) release outcome
       → ComparesStored view releases name outcome old
   compares_of old release releases name outcome has is other also =
-      compared_alike (full old.history) (IsStored view old) release other (one_value (releases (scope_of old.catalog.layout) name) (files_of release) (files_of other) has also) outcome is
+      compared_alike (full old.history) (IsStored view old) release other (one_value (releases (scope_of old.catalog) name) (files_of release) (files_of other) has also) outcome is

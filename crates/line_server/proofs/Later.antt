@@ -2,19 +2,19 @@
 use Rattle.std.proofs.Common.{◌≡◌, ◌≢◌, ◌⊎◌, ℕ, Bool, true, false, List, Some, Result, Err, refl, sym, ap, subst, ◌∙◌, inl, inr}
 use Rattle.std.proofs.lemmas.Bool.{false≢true}
 use Rattle.disk_model.specs.View.{DiskView}
-use Rattle.directory.specs.declared.layout.Layout.{Layout}
-use Rattle.directory.specs.declared.layout.Layout.TheVariants as layouts
 use Rattle.import_check.specs.declared.release.Release.{Release}
+use Rattle.import_check.specs.declared.scope.Scope.{Scope}
+use Rattle.import_check.specs.declared.scope.Scope.TheVariants as scopes
 use Rattle.import_check.specs.Release.{files_of}
 use Rattle.history_store.specs.declared.refusal.Refusal.{Refusal}
 use Rattle.history_store.specs.declared.refusal.Refusal.TheVariants as store
-use Rattle.history_store.specs.Prepared.{IsForLater}
+use Rattle.history_store.specs.Prepared.{IsForLater, scope_of}
 use Rattle.question_model.specs.Questions.{Question, Dates, Receipt, Added, ForIds}
 use Rattle.line_commands.specs.Commands.{Command, Ask, At, Import, Check, Pin, Unpin, Merge, Step, Publish, Abandon, Trim, Status}
 use Rattle.line_commands.specs.Requests.{Asks}
 use Rattle.line_server.specs.declared.refusal.LineRefusal.{LineRefusal}
 use Rattle.line_server.specs.declared.refusal.LineRefusal.TheVariants as refusals
-use Rattle.line_server.specs.Sources.{Releases, scope_of}
+use Rattle.line_server.specs.Sources.{Releases}
 use Rattle.line_server.specs.ReplyValue.{Answer}
 use Rattle.line_server.specs.Replies.{Server, Replies, NeedsLater, IsOutcome, IsStoreRefusal, IsRefusalAt, IsClosed, IsLacking, imports_seen}
 use Rattle.line_server.specs.Laws.{GivesNoMembers, OnlyMembersNeedLater}
@@ -38,10 +38,9 @@ held_for_no_layout holds.Confirming = refl
 held_for_no_layout holds.Changing = refl
 
 module _ {D : Type 0} (honest : Type 0) (releases : Releases) (none : GivesNoMembers releases) (old new : Server D) where
-  asked_rightly : (layout : Layout) (name : List ℕ) (release : Release) → releases (scope_of layout) name ≡ Some (files_of release) → IsForLater layout release → ⊥
-  asked_rightly layouts.One name release has later = none name release has later
-  asked_rightly layouts.Two name release has later = none name release has later
-  asked_rightly layouts.Three name release has later = later
+  asked_rightly : (scope : Scope) (name : List ℕ) (release : Release) → releases scope name ≡ Some (files_of release) → IsForLater scope release → ⊥
+  asked_rightly scopes.Basic name release has later = none name release has later
+  asked_rightly scopes.Whole name release has later = later
 
   closed_never : IsClosed store.LaterVersion old new → ⊥
   closed_never c = false≢true (sym (ap is_later c.0))
@@ -60,8 +59,8 @@ module _ {D : Type 0} (honest : Type 0) (releases : Releases) (none : GivesNoMem
   refused_never : (session : ℕ) (command : Command) → IsStoreRefusal honest releases session command store.LaterVersion old new → ⊥
   refused_never session (Ask question) r = asked_never (imports_seen old session) question r
   refused_never session (At number question) r = asked_never number question r.1
-  refused_never session (Import name) r = asked_rightly old.store.catalog.layout name r.release r.has r.at_all.0.1.1
-  refused_never session (Check name) r = asked_rightly old.store.catalog.layout name r.release r.has r.at_all.0.1.1
+  refused_never session (Import name) r = asked_rightly (scope_of old.store.catalog) name r.release r.has r.at_all.0.1.1
+  refused_never session (Check name) r = asked_rightly (scope_of old.store.catalog) name r.release r.has r.at_all.0.1.1
   refused_never session (Pin number) r = r
   refused_never session Unpin r = r
   refused_never session Merge r = r.0.0.1.1

@@ -22,7 +22,7 @@ use Rattle.history_store.specs.declared.refusal.Refusal.{Refusal}
 use Rattle.history_store.specs.declared.refusal.Refusal.TheVariants as store
 use Rattle.history_store.specs.Catalog.{Catalog, IsCatalogAfter, HasNoEntry, HasNoPlace, next_catalog, place_for, reserved_by}
 use Rattle.history_store.specs.StoreValue.{StoreValue, last_import, last_epoch}
-use Rattle.history_store.specs.Prepared.{IsAdmitted, IsNotSpent, IsForLater}
+use Rattle.history_store.specs.Prepared.{IsAdmitted, IsNotSpent, IsForLater, scope_of}
 use Rattle.history_store.specs.Answers.{IsNotTaken, IsRefusedFor, IsRefused, IsImportOf}
 use Rattle.history_store.specs.Merging.{AreFewest, ComesFirst, Inputs, IsBegun, HasNoOutput}
 use Rattle.history_store.specs.MergeAnswers.{IsUnbegun, IsNotBegun, IsBeginningOf}
@@ -104,7 +104,7 @@ module _ (c d : Catalog) (alike : without_sums d ≡ without_sums c) where
   admitted : (h : History) (release : Release) → IsAdmitted h d release → IsAdmitted h c release
   admitted h release a = record {
     room = subst (λ (k : Catalog). IsNotSpent h.imports k.epoch) alike a.room;
-    not_later = subst (λ (k : Catalog). IsForLater k.layout release → ⊥) alike a.not_later;
+    not_later = subst (λ (k : Catalog). IsForLater (scope_of k) release → ⊥) alike a.not_later;
   }
 
   no_entry : (rows : List StampedRow) → HasNoEntry rows d → HasNoEntry rows c
@@ -124,7 +124,7 @@ module _ (c d : Catalog) (alike : without_sums d ≡ without_sums c) where
   same_why h release store.OutOfMemory why = admitted h release why
   same_why h release store.DiskFault why = (admitted h release why.0, why.1)
   same_why h release store.CountSpent why = subst (λ (k : Catalog). (h.imports ≡ last_import) ⊎ (k.epoch ≡ last_epoch)) alike why
-  same_why h release store.LaterVersion why = subst (λ (k : Catalog). IsNotSpent h.imports k.epoch × IsForLater k.layout release) alike why
+  same_why h release store.LaterVersion why = subst (λ (k : Catalog). IsNotSpent h.imports k.epoch × IsForLater (scope_of k) release) alike why
   same_why h release (store.Line file line fault) why = (admitted h release why.0, why.1)
   same_why h release (store.Contradiction file line) why = (admitted h release why.0, why.1)
   same_why h release store.TooManySegments why = record { room = admitted h release why.room; accepted = why.accepted; lacks = no_entry _ why.lacks }

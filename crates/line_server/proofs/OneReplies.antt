@@ -21,7 +21,7 @@ use Rattle.line_commands.proofs.Readings.{one_reading, asked_is_read, one_refusa
 use Rattle.line_server.specs.declared.refusal.LineRefusal.{LineRefusal}
 use Rattle.line_server.specs.declared.refusal.LineRefusal.TheVariants as refusals
 use Rattle.line_server.specs.Pins.{pin_of}
-use Rattle.line_server.specs.Sources.{Releases, scope_of}
+use Rattle.line_server.specs.Sources.{Releases}
 use Rattle.import_check.specs.declared.release.Release.{Release}
 use Rattle.import_check.specs.Release.{files_of}
 use Rattle.line_server.specs.ReplyValue.{Answer, Done}
@@ -29,6 +29,7 @@ use Rattle.line_server.specs.declared.held.Held.{Held}
 use Rattle.line_server.specs.StateValue.{HoldsBack, reason_of, met_after}
 use Rattle.line_server.specs.Replies.{Server, Same, SameStore, IsChecked, import_words, imports_seen, left_of, IsAnswer, IsImported, IsClosed, IsStoreRefusal, IsOutcome, NamesRelease, NeedsLater, Replies}
 use Rattle.history_store.specs.Checking.{HasFailed}
+use Rattle.history_store.specs.Prepared.{scope_of}
 use Rattle.line_server.specs.Laws.{OneReply, AreAlike, IsSure, without_sums}
 use Rattle.store_life.proofs.AlikeReleases.{import_alike}
 use Rattle.line_server.proofs.AskedOf.{OutcomeAt, outcome_at}
@@ -243,7 +244,7 @@ then_like a b after next same h k = record {
 -- an import without a release, and one with a release
 pub record NoRelease {D : Type 0} (releases : Releases) (name : List ℕ) (x : Result Answer LineRefusal) (old new : Server D) : Type 0 where
   pub is : x ≡ Err refusals.NoFolder
-  pub none : releases (scope_of old.store.catalog.layout) name ≡ None
+  pub none : releases (scope_of old.store.catalog) name ≡ None
   pub stays : Same old new
 
 pub record WithRelease {D : Type 0} (honest : Type 0) (releases : Releases) (name : List ℕ) (x : Result Answer LineRefusal) (old new : Server D) : Type 0 where
@@ -259,13 +260,13 @@ pub record WithCheck {D : Type 0} (honest : Type 0) (releases : Releases) (name 
   pub checked : IsChecked honest releases name result old new
   pub is : x ≡ said result
 
-named : {D : Type 0} (releases : Releases) (name : List ℕ) (old new : Server D) → (other : List ℕ) × (other ≡ name) × (releases (scope_of old.store.catalog.layout) other ≡ None) × (new ≡ old) → NoRelease releases name (Err refusals.NoFolder) old new
+named : {D : Type 0} (releases : Releases) (name : List ℕ) (old new : Server D) → (other : List ℕ) × (other ≡ name) × (releases (scope_of old.store.catalog) other ≡ None) × (new ≡ old) → NoRelease releases name (Err refusals.NoFolder) old new
 named releases name old new h =
-    record { is = refl; none = ap (releases (scope_of old.store.catalog.layout)) (sym h.1) ∙ h.2; stays = same_from old new h.3 }
+    record { is = refl; none = ap (releases (scope_of old.store.catalog)) (sym h.1) ∙ h.2; stays = same_from old new h.3 }
 
 -- where the catalogs are alike, a source is asked for the same
-pub same_release : {D : Type 0} (releases : Releases) (name : List ℕ) (a b : Server D) → without_sums b.store.catalog ≡ without_sums a.store.catalog → releases (scope_of a.store.catalog.layout) name ≡ releases (scope_of b.store.catalog.layout) name
-same_release releases name a b same = ap (λ (c : Catalog). releases (scope_of c.layout) name) (sym same)
+pub same_release : {D : Type 0} (releases : Releases) (name : List ℕ) (a b : Server D) → without_sums b.store.catalog ≡ without_sums a.store.catalog → releases (scope_of a.store.catalog) name ≡ releases (scope_of b.store.catalog) name
+same_release releases name a b same = ap (λ (c : Catalog). releases (scope_of c) name) (sym same)
 
 pub import_told : {D : Type 0} (honest : Type 0) (releases : Releases) (session : ℕ) (name : List ℕ) (x : Result Answer LineRefusal) (old new : Server D) → IsSure x → IsOutcome honest releases session (Import name) x old new
     → NoRelease releases name x old new ⊎ WithRelease honest releases name x old new
@@ -414,10 +415,10 @@ module _ {D : Type 0} (releases : Releases) (a b after next : Server D) (honest 
 
 -- a later layout is needed at both of two stores that are alike
 later_too : {D : Type 0} (c : Command) (s t : StoreValue D) → t.history ≡ s.history → without_sums t.catalog ≡ without_sums s.catalog → NeedsLater c s → NeedsLater c t
-later_too (Ask question) s t history catalog later = (ap (λ (k : Catalog). scope_of k.layout) catalog ∙ later.0, later.1)
+later_too (Ask question) s t history catalog later = (ap (λ (k : Catalog). scope_of k) catalog ∙ later.0, later.1)
 later_too (At number question) s t history catalog later = (
   subst (λ (h : History). number ≤ h.imports) (sym history) later.0,
-  ap (λ (k : Catalog). scope_of k.layout) catalog ∙ later.1,
+  ap (λ (k : Catalog). scope_of k) catalog ∙ later.1,
   later.2,
 )
 later_too c s t history catalog later = later

@@ -161,7 +161,7 @@ GivesNoMembers releases = (name : List ℕ) (release : Release)
     → releases scopes.Basic name ≡ Some (files_of release) → HasMembers release → ⊥
 
 -- With such releases exactly those lines are answered 14 that ask a question which needs members,
--- of a store whose layout keeps none, whatever the disk does.
+-- of a store that keeps none, whatever the disk does.
 abbrev pub OnlyMembersNeedLater : (D : Type 0) → (D → DiskView) → Type 0
 OnlyMembersNeedLater D view =
     (releases : Releases) (line : List ℕ) (outcome : Result Answer LineRefusal) (old new : Server D)

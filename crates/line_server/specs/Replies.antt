@@ -24,6 +24,7 @@ use Rattle.history_store.specs.Queries.{IsWithoutRead}
 use Rattle.history_store.specs.Checking.{IsCheckingOf, IsCheckingOnAnyDisk}
 use Rattle.history_store.specs.MergeAnswers.{IsBeginningOf, IsSteppingOf, IsPublishingOf}
 use Rattle.history_store.specs.MergeAnswers.{IsAbandoningOf, IsTrimmingOf}
+use Rattle.history_store.specs.Prepared.{scope_of}
 use Rattle.line_commands.specs.declared.unread.Unread.{Unread}
 use Rattle.question_model.specs.Questions.{RowQuestion, Get, History, About, Timeline, Page, Delta}
 use Rattle.question_model.specs.Questions.{Members, Values, Called, AllRows}
@@ -39,7 +40,7 @@ use Rattle.line_server.specs.declared.refusal.LineRefusal.TheVariants as refusal
 use Rattle.line_server.specs.Pins.{pin_of}
 use Rattle.line_server.specs.declared.held.Held.{Held}
 use Rattle.line_server.specs.StateValue.{StateValue, HoldsBack, reason_of, met_after}
-use Rattle.line_server.specs.Sources.{Releases, scope_of}
+use Rattle.line_server.specs.Sources.{Releases}
 use Rattle.line_server.specs.ReplyValue.{Answer, Rows, Ids, Dates, Done, digits_of}
 
 -- what a reply depends on: the pins of the sessions, the store, and which commands are held back
@@ -103,23 +104,23 @@ IsFinding honest (Added number kind after limit) rows answer = ⊥
 abbrev pub IsPinned : {D : Type 0} → Server D → Server D → ℕ → Option ℕ → Type 0
 IsPinned old new session pin = new ≡ record old { pins = slice_set old.pins session pin }
 
--- An import of the release of this name, in the scope of the store's layout, had this result: on
+-- An import of the release of this name, in the store's scope, had this result: on
 -- every disk as far as files and counts go, and on an honest disk in every respect. (Which rows it
 -- was compared with is said by `ComparesStored`.)
 pub record IsImported {D : Type 0} (honest : Type 0) (releases : Releases) (name : List ℕ)
     (result : Result Receipt Refusal) (old new : Server D) : Type 0 where
   pub release : Release
-  pub has : releases (scope_of old.store.catalog.layout) name ≡ Some (files_of release)
+  pub has : releases (scope_of old.store.catalog) name ≡ Some (files_of release)
   pub at_all : IsImportOnAnyDisk AnyRow result old.store new.store release
   pub imported : honest → IsImportOf result old.store new.store release
   pub pins : new.pins ≡ old.pins
 
--- A check of the release of this name, in the scope of the store's layout, had this result: the
+-- A check of the release of this name, in the store's scope, had this result: the
 -- same as for an import, but nothing is imported.
 pub record IsChecked {D : Type 0} (honest : Type 0) (releases : Releases) (name : List ℕ)
     (result : Result Receipt Refusal) (old new : Server D) : Type 0 where
   pub release : Release
-  pub has : releases (scope_of old.store.catalog.layout) name ≡ Some (files_of release)
+  pub has : releases (scope_of old.store.catalog) name ≡ Some (files_of release)
   pub at_all : IsCheckingOnAnyDisk AnyRow result old.store new.store release
   pub checked : honest → IsCheckingOf result old.store new.store release
   pub pins : new.pins ≡ old.pins
@@ -329,7 +330,7 @@ IsRefusal honest releases session command refusals.PinRange old new =
     IsOutOfRange session command old × (new ≡ old)
 IsRefusal honest releases session command refusals.NoFolder old new =
     (name : List ℕ) × NamesRelease command name
-    × (releases (scope_of old.store.catalog.layout) name ≡ None) × (new ≡ old)
+    × (releases (scope_of old.store.catalog) name ≡ None) × (new ≡ old)
 IsRefusal honest releases session command (refusals.Store refusal) old new =
     IsStoreRefusal honest releases session command refusal old new
 
@@ -362,12 +363,12 @@ NeedsMembers (Added number kind after limit) = kind ≡ kinds.Member
 NeedsMembers _ = ⊥
 
 -- the command needs a later layout than the store's: it asks a question that needs members, and
--- the store's layout keeps none; after AT, about imports that the store has
+-- the store keeps none; after AT, about imports that the store has
 abbrev pub NeedsLater : {D : Type 0} → Command → StoreValue D → Type 0
 NeedsLater (Ask question) store =
-    (scope_of store.catalog.layout ≡ scopes.Basic) × NeedsMembers question
+    (scope_of store.catalog ≡ scopes.Basic) × NeedsMembers question
 NeedsLater (At number question) store = (number ≤ store.history.imports)
-    × (scope_of store.catalog.layout ≡ scopes.Basic) × NeedsMembers question
+    × (scope_of store.catalog ≡ scopes.Basic) × NeedsMembers question
 NeedsLater command store = ⊥
 
 -- The command is held back: it is refused for that reason, and nothing changes.

@@ -1,10 +1,7 @@
 -- Sources of releases.
 use Rattle.std.specs.Prelude.{◌≡◌, ⊤, ℕ, List, Option, Some, None, Result, Ok, Err}
 use Rattle.rf2_values.specs.declared.row.Kind.{Kind}
-use Rattle.directory.specs.declared.layout.Layout.{Layout}
-use Rattle.directory.specs.declared.layout.Layout.TheVariants as layouts
 use Rattle.import_check.specs.declared.scope.Scope.{Scope}
-use Rattle.import_check.specs.declared.scope.Scope.TheVariants as scopes
 use Rattle.import_check.specs.declared.release.Release.{Release}
 use Rattle.import_check.specs.Release.{files_of}
 use Rattle.history_store.specs.declared.refusal.Refusal.TheVariants as store
@@ -16,12 +13,6 @@ use Rattle.line_server.specs.declared.source.SourceFault.TheVariants as faults
 -- the files of the release of each name, if there is one: those that a scope includes
 abbrev pub Releases : Type 0
 Releases = Scope → List ℕ → Option (List (Kind × List ℕ))
-
--- the scope of a layout: members of reference sets and text definitions are stored from layout 3 on
-abbrev pub scope_of : Layout → Scope
-scope_of layouts.One = scopes.Basic
-scope_of layouts.Two = scopes.Basic
-scope_of layouts.Three = scopes.Whole
 
 -- a source as clauses see it: whether it is honest, that is, returns the releases that it has; and
 -- these releases

@@ -18,6 +18,7 @@ use Rattle.history_store.specs.Queries.{ReadsThroughCache, StepsThroughCache, Is
 use Rattle.as_of_index.specs.Reader.{AreFor}
 use Rattle.index_answers.specs.Keys.{is_put_in_order}
 use Rattle.history_store.specs.Reading.{row_cost}
+use Rattle.history_store.specs.Prepared.{scope_of}
 use Rattle.rf2_values.specs.Row.{RowValue}
 use Rattle.rf2_values.specs.declared.key.Key.{Key}
 use Rattle.history_model.specs.Exports.{added}
@@ -30,7 +31,7 @@ use Rattle.line_commands.specs.Requests.{Asks}
 use Rattle.store_digest.specs.Digest.{IsDigestFor}
 use Rattle.line_server.specs.declared.refusal.LineRefusal.{LineRefusal}
 use Rattle.line_server.specs.declared.refusal.LineRefusal.TheVariants as refusals
-use Rattle.line_server.specs.Sources.{Releases, SourceView, scope_of}
+use Rattle.line_server.specs.Sources.{Releases, SourceView}
 use Rattle.line_server.specs.ReplyValue.{Answer, Rows, ReplyValue, reply_value, bytes_of, digits_of}
 use Rattle.line_server.specs.declared.held.Held.{Held}
 use Rattle.line_server.specs.StateValue.{met_after}
@@ -122,12 +123,12 @@ LeavesAsked view seen (Added number kind after limit) outcome old new =
     LeavesRead view (AllRows kind after limit) (added number kind after limit old.history.rows)
     outcome old new
 
--- the stored rows whose keys are in the release of the name are read, in the scope of the store's
--- layout, and so many bytes besides
+-- the stored rows whose keys are in the release of the name are read, in the store's
+-- scope, and so many bytes besides
 abbrev pub ReadsKnownOf : {D : Type 0} → (D → DiskView) → Releases → List ℕ → (besides : ℕ)
     → StoreValue D → StoreValue D → Type 0
 ReadsKnownOf view releases name besides old new =
-    (release : Release) → releases (scope_of old.catalog.layout) name ≡ Some (files_of release)
+    (release : Release) → releases (scope_of old.catalog) name ≡ Some (files_of release)
     → ReadsKnown view besides release old new
 
 -- The release was compared with rows that may be stored: after `OK` each of its rows that isn't new
@@ -141,12 +142,12 @@ IsComparedWith known may_be release (Err (refusals.Store (store.Contradiction fi
     (key : Key) × HasPossibleContradiction known may_be release file line key
 IsComparedWith known may_be release _ = Unit {0}
 
--- the release of the name, in the scope of the store's layout, was compared with rows that are
+-- the release of the name, in the store's scope, was compared with rows that are
 -- stored
 abbrev pub ComparesStored : {D : Type 0} → (D → DiskView) → Releases → List ℕ
     → Result Answer LineRefusal → StoreValue D → Type 0
 ComparesStored view releases name outcome old =
-    (release : Release) → releases (scope_of old.catalog.layout) name ≡ Some (files_of release)
+    (release : Release) → releases (scope_of old.catalog) name ≡ Some (files_of release)
     → IsComparedWith (full old.history) (IsStored view old) release outcome
 
 -- What a command leaves of the disk. On an honest one IMPORT, STEP and PUBLISH may change what a
@@ -191,11 +192,11 @@ LeavesDisk view releases seen Trim outcome old new =
 LeavesDisk view releases seen command outcome old new = new.disk ≡ old.disk
 
 -- The turn's outcome is that of a server whose source has these releases, and which asks it for the
--- files that the store's layout keeps; and the disk is left so.
+-- files that the store keeps; and the disk is left so.
 pub record GoesBy {D : Type 0} (view : D → DiskView) (releases : Releases) (old : Server D)
     (turn : Turn) (new : Server D) : Type 0 where
   pub replies : Replies (view old.store.disk).is_honest releases turn.line turn.outcome old new
-  pub asked : IsOfAsked releases (scope_of old.store.catalog.layout) turn.line turn.call
+  pub asked : IsOfAsked releases (scope_of old.store.catalog) turn.line turn.call
   pub disk : (session : ℕ) (command : Command) → Asks turn.line session command
       → LeavesDisk view releases (imports_seen old session) command turn.outcome old.store new.store
 

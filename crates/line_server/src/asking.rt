@@ -13,7 +13,6 @@ use crate::queries::{
 };
 use crate::refusal::LineRefusal;
 use crate::reply::Reply;
-use crate::source::scope_for;
 use disk_model::Disk;
 use history_store::Store;
 use import_check::Scope;
@@ -55,7 +54,7 @@ fn needs_members(question: &Question<'_>) -> bool
 pub(crate) fn needs_later<D: Disk>(command: &Command<'_>, store: &Store<D>) -> bool
     ensures { IsTrue result ↔ NeedsLater (command_of command.now) store.now }
 {
-    match scope_for(store) {
+    match store.scope() {
         Scope::Whole => false,
         Scope::Basic => match command {
             Command::Ask(question) => needs_members(question),

@@ -72,7 +72,7 @@ pub fn reading_has_no_change<D: Disk>()
 {}
 
 /// If the source gives no members of reference sets when it is asked for the basic files, exactly
-/// the questions that need members are answered 14, where the store's layout keeps none.
+/// the questions that need members are answered 14, where the store keeps none.
 pub fn only_members_need_later<D: Disk>()
     // promise: members_need_layout_3
     ensures { OnlyMembersNeedLater D D.view }

@@ -2,10 +2,9 @@
 
 ghost use Rattle.std.specs.Prelude.{◌≡◌, ℕ, List, Option};
 ghost use Rattle.rf2_values.specs.declared.row.Kind.{Kind};
-ghost use Rattle.line_server.specs.Sources.{Releases, IsGiven, scope_of};
+ghost use Rattle.line_server.specs.Sources.{Releases, IsGiven};
 
-use disk_model::Disk;
-use history_store::{Refusal, Store};
+use history_store::Refusal;
 use import_check::{Release, Scope};
 use std::alloc::Global;
 use thiserror::Error;
@@ -38,16 +37,4 @@ pub trait Source {
     fn note_refusal(&mut self, alloc: Global, name: &str, scope: Scope, refusal: Refusal)
         ensures honesty { is_honest self.old → is_honest self.new }
         ensures stays { is_honest self.old → releases self.new ≡ releases self.old };
-}
-
-/// The scope of the releases for a store: the files that its layout keeps.
-pub fn scope_for<D: Disk>(store: &Store<D>) -> Scope
-    // promise: files_are_taken_by_their_names
-    ensures { result ≡ scope_of store.now.catalog.layout }
-{
-    if store.layout_number() < 3 {
-        Scope::Basic
-    } else {
-        Scope::Whole
-    }
 }

@@ -15,6 +15,7 @@ use crate::unspelled::count_unspelled;
 use case_files::{Answer, NoAnswer, two_words};
 use case_values::{first_word, number, spell_text};
 use disk_model::MemDisk;
+use history_store::Layout;
 use std::alloc::Global;
 use std::io::{Read, Write};
 use test_support::{Example, Releases};
@@ -53,7 +54,7 @@ impl CaseState {
     /// The store, a new one if there is none yet.
     fn store(&mut self) -> Result<&mut Example, NoAnswer> {
         if self.store.is_none() {
-            self.store = Some(store_of(Example::new(self.alloc))?);
+            self.store = Some(store_of(Example::new(self.alloc, Layout::Two))?);
         }
         self.store.as_mut().ok_or(NoAnswer::NoQuestion)
     }
@@ -221,7 +222,7 @@ impl CaseState {
                 Ok(String::from_str(alloc, "done")?)
             }
             "new-in-three" => {
-                self.store = Some(store_of(Example::new_in_three(alloc))?);
+                self.store = Some(store_of(Example::new(alloc, Layout::Three))?);
                 Ok(String::from_str(alloc, "done")?)
             }
             _ if word.parse::<u16>().is_ok() => {

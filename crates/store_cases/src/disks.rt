@@ -17,7 +17,7 @@
 //!   at a time, and prints how many of these changes leave a disk that isn't opened as a store
 //!   because it is damaged.
 //!
-//! `new` begins with a new store, and `new-in-three` with one of layout 3.
+//! `new` begins with a new store of layout 2, and `new-in-three` with one of layout 3.
 
 use case_files::{Answer, NoAnswer};
 use case_values::{choice_of, first_word, number, spell_block, spell_number, spell_part};

@@ -36,7 +36,7 @@ use crate::unwritten::run_unwritten;
 use case_files::{Answer, Answers, NoAnswer};
 use case_values::{Groups, choice_of, first_word, number};
 use disk_model::MemDisk;
-use history_store::Refusal;
+use history_store::{Layout, Refusal};
 use std::alloc::Global;
 use std::rt::HostRuntime;
 use test_support::{CHOICES, Example, image_after, image_before_end};
@@ -160,7 +160,7 @@ impl<'a> Trials<'a> {
     fn create(&mut self) -> Answer {
         let disk = self.disk()?;
         let before = disk.changes();
-        match Example::create(self.alloc, disk) {
+        match Example::create(self.alloc, disk, Layout::Two) {
             Ok(store) => {
                 self.state.put(store);
                 self.done()
@@ -178,7 +178,7 @@ impl<'a> Trials<'a> {
     /// Makes or opens the store with which a trial begins.
     fn begin_trial(&mut self) -> Result<(), NoAnswer> {
         let store = if self.kept.is_empty() {
-            store_of(Example::new(self.alloc))?
+            store_of(Example::new(self.alloc, Layout::Two))?
         } else {
             store_of(Example::opened(self.alloc, self.disk()?))?
         };
@@ -270,7 +270,8 @@ impl<'a> Trials<'a> {
 
     /// Sends the lines of a part to a new store in a way.
     fn ask_way(&mut self, word: &str, words: &str) -> Answer {
-        self.state.put(store_of(Example::new(self.alloc))?);
+        self.state
+            .put(store_of(Example::new(self.alloc, Layout::Two))?);
         let asked = (word, words);
         ask_way(
             self.alloc,
@@ -358,7 +359,7 @@ impl<'a> Trials<'a> {
     /// Makes or opens the store on a disk.
     fn opened_on(&self, disk: MemDisk) -> Result<Example, (Refusal, MemDisk)> {
         if self.kept.is_empty() {
-            Example::create(self.alloc, disk)
+            Example::create(self.alloc, disk, Layout::Two)
         } else {
             Example::open(self.alloc, disk)
         }

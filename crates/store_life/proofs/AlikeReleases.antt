@@ -11,10 +11,10 @@ use Rattle.history_model.specs.declared.stamped.StampedRow.{StampedRow}
 use Rattle.history_model.specs.declared.receipt.Receipt.{Receipt}
 use Rattle.history_model.specs.History.{History}
 use Rattle.history_model.specs.InOrder.{Has}
-use Rattle.directory.specs.declared.layout.Layout.{Layout}
-use Rattle.directory.specs.declared.layout.Layout.TheVariants as layouts
 use Rattle.import_check.specs.declared.release.ReleaseFile.{ReleaseFile}
 use Rattle.import_check.specs.declared.release.Release.{Release}
+use Rattle.import_check.specs.declared.scope.Scope.{Scope}
+use Rattle.import_check.specs.declared.scope.Scope.TheVariants as scopes
 use Rattle.import_check.specs.declared.found.NewRows.{NewRows}
 use Rattle.import_check.specs.Release.{IsAccepted, SpellFiles, IsReleaseOf, IsFaultOfRelease, HasContradiction, HasPossibleContradiction}
 use Rattle.import_check.specs.Release.{files_of}
@@ -23,7 +23,7 @@ use Rattle.history_store.specs.declared.refusal.Refusal.{Refusal}
 use Rattle.history_store.specs.declared.refusal.Refusal.TheVariants as store
 use Rattle.history_store.specs.Catalog.{Catalog}
 use Rattle.history_store.specs.StoreValue.{StoreValue}
-use Rattle.history_store.specs.Prepared.{IsForLater, IsAdmitted}
+use Rattle.history_store.specs.Prepared.{IsForLater, IsAdmitted, scope_of}
 use Rattle.history_store.specs.Answers.{IsTakenAs, WouldBeTakenBut, IsImportOf}
 use Rattle.history_store.specs.Checking.{HasFailed}
 
@@ -138,18 +138,16 @@ module _ (release other : Release) (same : files_of release ≡ files_of other) 
         fault_is = subst (λ (b : FileBytes). IsFaultOfFile b.0 b.1 line fault) c.middle_is f.fault_is;
       }
 
-  later_alike : (layout : Layout) → IsForLater layout release → IsForLater layout other
-  later_alike layouts.One is = subst (λ (l : List Kind). Has l kinds.Member) (kinds_alike release.files.items other.files.items same) is
-  later_alike layouts.Two is = subst (λ (l : List Kind). Has l kinds.Member) (kinds_alike release.files.items other.files.items same) is
-  later_alike layouts.Three is = is
+  later_alike : (scope : Scope) → IsForLater scope release → IsForLater scope other
+  later_alike scopes.Basic is = subst (λ (l : List Kind). Has l kinds.Member) (kinds_alike release.files.items other.files.items same) is
+  later_alike scopes.Whole is = is
 
-  earlier_alike : (layout : Layout) → IsForLater layout other → IsForLater layout release
-  earlier_alike layouts.One is = subst (λ (l : List Kind). Has l kinds.Member) (kinds_alike other.files.items release.files.items (sym same)) is
-  earlier_alike layouts.Two is = subst (λ (l : List Kind). Has l kinds.Member) (kinds_alike other.files.items release.files.items (sym same)) is
-  earlier_alike layouts.Three is = is
+  earlier_alike : (scope : Scope) → IsForLater scope other → IsForLater scope release
+  earlier_alike scopes.Basic is = subst (λ (l : List Kind). Has l kinds.Member) (kinds_alike other.files.items release.files.items (sym same)) is
+  earlier_alike scopes.Whole is = is
 
   admitted_alike : {h : History} {catalog : Catalog} → IsAdmitted h catalog release → IsAdmitted h catalog other
-  admitted_alike {h} {catalog} a = record { room = a.room; not_later = λ is. a.not_later (earlier_alike catalog.layout is) }
+  admitted_alike {h} {catalog} a = record { room = a.room; not_later = λ is. a.not_later (earlier_alike (scope_of catalog) is) }
 
   abbrev accepted_alike : {known : List RowValue} → IsAccepted known release → IsAccepted known other
   accepted_alike a = record { rows = a.rows; is_release = release_alike a.is_release; consistent = a.consistent }
@@ -164,7 +162,7 @@ module _ (release other : Release) (same : files_of release ≡ files_of other) 
   import_alike (Ok receipt) old new sure i = (taken_alike i.0, i.1, i.2)
   import_alike (Err store.ReopenNeeded) old new sure i = i
   import_alike (Err store.CountSpent) old new sure i = i
-  import_alike (Err store.LaterVersion) old new sure i = ((i.0.0, (i.0.1.0, later_alike old.catalog.layout i.0.1.1)), i.1)
+  import_alike (Err store.LaterVersion) old new sure i = ((i.0.0, (i.0.1.0, later_alike (scope_of old.catalog) i.0.1.1)), i.1)
   import_alike (Err (store.Line file line fault)) old new sure i = ((i.0.0, (admitted_alike i.0.1.0, fault_alike i.0.1.1)), i.1)
   import_alike (Err (store.Contradiction file line)) old new sure i = ((i.0.0, (admitted_alike i.0.1.0, (i.0.1.1.0, contradiction_alike i.0.1.1.1))), i.1)
   import_alike (Err store.TooManySegments) old new sure i = ((i.0.0, unplaced_alike i.0.1), i.1)

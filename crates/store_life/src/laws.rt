@@ -73,7 +73,7 @@ pub fn trim_is_a_call<D: Disk>()
     ensures { TrimIsACall D D.view }
 {}
 
-/// A life may begin with a store that `Store::create_in` made or `Store::open` opened.
+/// A life may begin with a store that `Store::create` made or `Store::open` opened.
 pub fn each_life_begins<D: Disk>()
     // promise: a_confirmed_import_survives
     ensures { EachLifeBegins D D.view }

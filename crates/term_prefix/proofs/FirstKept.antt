@@ -28,7 +28,7 @@ use Rattle.as_of_index.specs.Private.Chosen.{chosen, chosen_cmp}
 use Rattle.term_prefix.specs.declared.search.Search.{Search}
 use Rattle.term_prefix.specs.declared.search.Bounds.{Bounds}
 use Rattle.term_prefix.specs.declared.search.Candidate.TheVariants as candidates
-use Rattle.term_prefix.specs.Private.{chosen_at, IsFull, IsTaken, Counts, AreKept, SaysTaken, SaysCandidate, IsOfDescription, AreBounds}
+use Rattle.term_prefix.specs.Private.{chosen_at, IsFull, IsKeptOrBeyond, Counts, AreKept, SaysFull, SaysCandidate, IsOfDescription, AreBounds}
 use Rattle.as_of_index.specs.Private.Search.{SplitsAt}
 use Rattle.as_of_index.proofs.First.{taken_or_above, length-put, put_there, put_new}
 use Rattle.as_of_index.proofs.First.{Falls}
@@ -48,14 +48,14 @@ pub still_full : (limit : ℕ) (k : Chosen) (kept : List Chosen) → limit ≤ l
 still_full limit k kept le = let more = length-put chosen_cmp k kept in let e = length-take-le limit (put chosen_cmp k kept) (omega arith) in omega arith
 
 -- what is there is among the first so many, or beyond them
-taken_id : (limit : ℕ) (ys : List Chosen) (j : Chosen) (id : ℕ) → IsAscending chosen_cmp ys → Has ys j → j.at.key.id ≡ id → IsTaken limit (take limit ys) id
+taken_id : (limit : ℕ) (ys : List Chosen) (j : Chosen) (id : ℕ) → IsAscending chosen_cmp ys → Has ys j → j.at.key.id ≡ id → IsKeptOrBeyond limit (take limit ys) id
 taken_id limit ys j id up h e = elim (taken_or_above chosen_total limit ys j up h) [
   | inl l ↦ inl (j, l, e)
   | inr r ↦ inr (r.0, λ i k. subst (λ n. i.at.key.id < n) e (lower i j (r.1 i k)))
 ]
 
 module _ (lists : List (List StampedRow)) (search : Search) where
-  pub kept_more : (seen kept : List Chosen) (k : Chosen) → AreKept lists search seen kept → Counts lists search k × SaysTaken search.limit kept k.at.key.id false → AreKept lists search (seen ++ k ∷ []) (take search.limit (put chosen_cmp k kept))
+  pub kept_more : (seen kept : List Chosen) (k : Chosen) → AreKept lists search seen kept → Counts lists search k × SaysFull search.limit kept k.at.key.id false → AreKept lists search (seen ++ k ∷ []) (take search.limit (put chosen_cmp k kept))
   kept_more seen kept k a w =
       let up = IsAscending-put chosen_total k kept a.ascending in
       record {
@@ -73,7 +73,7 @@ module _ (lists : List (List StampedRow)) (search : Search) where
             )
           ]
           | inr r ↦ elim r [
-            | inl e ↦ subst (λ (x : Chosen). IsTaken search.limit (take search.limit (put chosen_cmp k kept)) x.at.key.id) e (itself up)
+            | inl e ↦ subst (λ (x : Chosen). IsKeptOrBeyond search.limit (take search.limit (put chosen_cmp k kept)) x.at.key.id) e (itself up)
             | inr f ↦ absurd f
           ]
         ];
@@ -82,13 +82,13 @@ module _ (lists : List (List StampedRow)) (search : Search) where
           | inr old ↦ (let o = a.only m old in (Has-append_left seen (k ∷ []) m o.0, o.1))
         ];
       } where
-        itself : IsAscending chosen_cmp (put chosen_cmp k kept) → IsTaken search.limit (take search.limit (put chosen_cmp k kept)) k.at.key.id
+        itself : IsAscending chosen_cmp (put chosen_cmp k kept) → IsKeptOrBeyond search.limit (take search.limit (put chosen_cmp k kept)) k.at.key.id
         itself up = elim (Has-put_new chosen_cmp k kept) [
           | inl h ↦ taken_id search.limit (put chosen_cmp k kept) k k.at.key.id up h refl
           | inr y ↦ taken_id search.limit (put chosen_cmp k kept) y.0 k.at.key.id up (Has-put_old chosen_cmp k kept y.0 y.1) (sym (ranked k.at.key.id y.0.at.key.id Equal (sym y.2)))
         ]
 
-  pub kept_other : (seen kept : List Chosen) (k : Chosen) → AreKept lists search seen kept → IsTaken search.limit kept k.at.key.id ⊎ (Counts lists search k → ⊥) → AreKept lists search (seen ++ k ∷ []) kept
+  pub kept_other : (seen kept : List Chosen) (k : Chosen) → AreKept lists search seen kept → IsKeptOrBeyond search.limit kept k.at.key.id ⊎ (Counts lists search k → ⊥) → AreKept lists search (seen ++ k ∷ []) kept
   kept_other seen kept k a w = record {
     ascending = a.ascending;
     few = a.few;
@@ -96,7 +96,7 @@ module _ (lists : List (List StampedRow)) (search : Search) where
       | inl l ↦ a.all m l now
       | inr r ↦ elim r [
         | inl e ↦ elim w [
-          | inl t ↦ subst (λ (x : Chosen). IsTaken search.limit kept x.at.key.id) e t
+          | inl t ↦ subst (λ (x : Chosen). IsKeptOrBeyond search.limit kept x.at.key.id) e t
           | inr no_more ↦ absurd (no_more (subst (λ (x : Chosen). Counts lists search x) (sym e) now))
         ]
         | inr f ↦ absurd f
@@ -146,14 +146,14 @@ highest (k ∷ m ∷ kept) (suc i) l j up e len h = elim h [
   | inr t ↦ highest (m ∷ kept) i l j up.1 e (omega arith) t
 ]
 
-pub says_by_last : (limit : ℕ) (kept : List Chosen) (id i : ℕ) (l : Chosen) → slice_get kept i ≡ Some l → length kept ≡ i + 1 → limit ≤ length kept → IsAscending chosen_cmp kept → SaysTaken limit kept id (nat_le l.at.key.id id)
+pub says_by_last : (limit : ℕ) (kept : List Chosen) (id i : ℕ) (l : Chosen) → slice_get kept i ≡ Some l → length kept ≡ i + 1 → limit ≤ length kept → IsAscending chosen_cmp kept → SaysFull limit kept id (nat_le l.at.key.id id)
 says_by_last limit kept id i l e len full up =
-    elim (nat_le l.at.key.id id) as (λ b. nat_le l.at.key.id id ≡ b → SaysTaken limit kept id b) [
+    elim (nat_le l.at.key.id id) as (λ b. nat_le l.at.key.id id ≡ b → SaysFull limit kept id b) [
       | true ↦ λ f. (full, λ j h. let le = highest kept i l j up e len h in let last : l.at.key.id ≤ id = grind (arith, nat_tests, f) in omega arith)
       | false ↦ λ f. λ k. (l, Has-slice_get kept i l e, grind (arith, nat_tests, f))
     ] refl
 
-pub says_last : (limit : ℕ) (kept : List Chosen) (id : ℕ) (l : Chosen) → slice_get kept (length kept - 1) ≡ Some l → limit ≤ length kept → IsAscending chosen_cmp kept → SaysTaken limit kept id (nat_le l.at.key.id id)
+pub says_last : (limit : ℕ) (kept : List Chosen) (id : ℕ) (l : Chosen) → slice_get kept (length kept - 1) ≡ Some l → limit ≤ length kept → IsAscending chosen_cmp kept → SaysFull limit kept id (nat_le l.at.key.id id)
 says_last limit [] id l e full up = absurd (cc)
 says_last limit (k ∷ kept) id l e full up = says_by_last limit (k ∷ kept) id (length (k ∷ kept) - 1) l e (omega arith) full up
 
@@ -234,7 +234,7 @@ same_id id (k ∷ kept) =
       other : (m : ℕ) → (m == id) ≡ false → m ≡ id → ⊥
       other m e f = grind (arith, nat_tests, e, f)
 
-full_taken : (limit : ℕ) (kept : List Chosen) (id : ℕ) → IsFull limit kept id → IsTaken limit kept id
+full_taken : (limit : ℕ) (kept : List Chosen) (id : ℕ) → IsFull limit kept id → IsKeptOrBeyond limit kept id
 full_taken limit kept id full = elim (same_id id kept) [
   | inl w ↦ inl w
   | inr none ↦ inr (full.0, λ j h. below j.at.key.id (full.1 j h) (none j h))
@@ -255,7 +255,7 @@ module _ (lists : List (List StampedRow)) (search : Search) (n i : ℕ) where
       (kept_more lists search seen kept (chosen n at) a (w.1, w.2))
 
   -- it isn't
-  row_left : (seen kept : List Chosen) → AreKept lists search seen kept → ((at : RowPlace) → IsPlaceOfRow lists n i at → IsTaken search.limit kept at.key.id ⊎ (Counts lists search (chosen n at) → ⊥)) → AreKept lists search (seen ++ chosen_at lists n i) kept
+  row_left : (seen kept : List Chosen) → AreKept lists search seen kept → ((at : RowPlace) → IsPlaceOfRow lists n i at → IsKeptOrBeyond search.limit kept at.key.id ⊎ (Counts lists search (chosen n at) → ⊥)) → AreKept lists search (seen ++ chosen_at lists n i) kept
   row_left seen kept a w =
       elim (item_at (map places_of lists) n i) as (λ o. item_at (map places_of lists) n i ≡ o → AreKept lists search (seen ++ chosen_of o) kept) [
         | None ↦ λ e. subst (λ ks. AreKept lists search ks kept) (sym (append-nil seen)) a
@@ -300,11 +300,11 @@ module _ (lists : List (List StampedRow)) (search : Search) (kept : List Chosen)
     pub says_high : IsFull search.limit kept id → SaysCandidate lists search kept n i candidates.High
     says_high full = let w = place_of_id id (item_at (map places_of lists) n i) id_is in (w.0, w.1, subst (λ m. IsFull search.limit kept m) w.2 full)
 
-    pub says_wanted : (at : RowPlace) → is_above search.after id ≡ true → SaysTaken search.limit kept id false → IsPlaceOfRow lists n i at × IsCurrentAt lists search.as_of n at → SaysCandidate lists search kept n i (candidates.Wanted at)
+    pub says_wanted : (at : RowPlace) → is_above search.after id ≡ true → SaysFull search.limit kept id false → IsPlaceOfRow lists n i at × IsCurrentAt lists search.as_of n at → SaysCandidate lists search kept n i (candidates.Wanted at)
     says_wanted at above room w =
         let p = place_of_id id (item_at (map places_of lists) n i) id_is in
         let same : id ≡ at.key.id = p.2 ∙ ap (λ (q : RowPlace). q.key.id) (one_place p.0 at p.1 w.0) in
-        (w.0, record { above = subst (λ m. is_above search.after m ≡ true) same above; current = w.1 }, subst (λ m. SaysTaken search.limit kept m false) same room)
+        (w.0, record { above = subst (λ m. is_above search.after m ≡ true) same above; current = w.1 }, subst (λ m. SaysFull search.limit kept m false) same room)
 
   pub says_old : ((at : RowPlace) → IsPlaceOfRow lists n i at × IsCurrentAt lists search.as_of n at → ⊥) → SaysCandidate lists search kept n i candidates.Old
   says_old none at place counts = none at (place, counts.current)
@@ -378,7 +378,7 @@ module _ (lists : List (List StampedRow)) (are : ArePlaces (map places_of lists)
   }
 
   -- one more is kept
-  pub kept_bounds : (kept : List Chosen) (b : Bounds) (k : Chosen) → AreBounds lists after limit kept n b → SaysTaken limit kept k.at.key.id false → AreBounds lists after limit (take limit (put chosen_cmp k kept)) n b
+  pub kept_bounds : (kept : List Chosen) (b : Bounds) (k : Chosen) → AreBounds lists after limit kept n b → SaysFull limit kept k.at.key.id false → AreBounds lists after limit (take limit (put chosen_cmp k kept)) n b
   kept_bounds kept b k are_bounds room = record {
     low = are_bounds.low;
     high = λ i at place kind behind.

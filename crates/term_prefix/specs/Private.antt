@@ -47,8 +47,8 @@ abbrev pub IsBeyond : ℕ → List Chosen → ℕ → Type 0
 IsBeyond limit kept id = (limit ≤ length kept) × ((j : Chosen) → Has kept j → j.at.key.id < id)
 
 -- the id is kept, or too great to be kept
-abbrev pub IsTaken : ℕ → List Chosen → ℕ → Type 0
-IsTaken limit kept id = ((j : Chosen) × Has kept j × (j.at.key.id ≡ id)) ⊎ IsBeyond limit kept id
+abbrev pub IsKeptOrBeyond : ℕ → List Chosen → ℕ → Type 0
+IsKeptOrBeyond limit kept id = ((j : Chosen) × Has kept j × (j.at.key.id ≡ id)) ⊎ IsBeyond limit kept id
 
 -- as many are kept as allowed, none with a greater id
 abbrev pub IsFull : ℕ → List Chosen → ℕ → Type 0
@@ -56,9 +56,9 @@ IsFull limit kept id = (limit ≤ length kept) × ((j : Chosen) → Has kept j �
 
 -- the result of a test of an id: true if as many are kept as allowed, none with a greater id; false
 -- if fewer are kept, or one of them has a greater id
-abbrev pub SaysTaken : ℕ → List Chosen → ℕ → Bool → Type 0
-SaysTaken limit kept id true = IsFull limit kept id
-SaysTaken limit kept id false = limit ≤ length kept → (j : Chosen) × Has kept j × (id < j.at.key.id)
+abbrev pub SaysFull : ℕ → List Chosen → ℕ → Bool → Type 0
+SaysFull limit kept id true = IsFull limit kept id
+SaysFull limit kept id false = limit ≤ length kept → (j : Chosen) × Has kept j × (id < j.at.key.id)
 
 -- the id is greater than `after`, if that is given, and the place is current
 pub record Counts (lists : List (List StampedRow)) (search : Search) (k : Chosen) : Type 0 where
@@ -70,7 +70,7 @@ pub record Counts (lists : List (List StampedRow)) (search : Search) (k : Chosen
 abbrev pub SaysCandidate : List (List StampedRow) → Search → List Chosen → ℕ → ℕ → Candidate
     → Type 0
 SaysCandidate lists search kept n i (candidates.Wanted at) = IsPlaceOfRow lists n i at
-    × Counts lists search (chosen n at) × SaysTaken search.limit kept at.key.id false
+    × Counts lists search (chosen n at) × SaysFull search.limit kept at.key.id false
 SaysCandidate lists search kept n i candidates.Low = (at : RowPlace) × IsPlaceOfRow lists n i at
     × (is_above search.after at.key.id ≡ false)
 SaysCandidate lists search kept n i candidates.High = (at : RowPlace) × IsPlaceOfRow lists n i at
@@ -87,9 +87,9 @@ abbrev pub AreOfDescriptions : List (List StampedRow) → ℕ → List Term → 
 AreOfDescriptions lists n ts = (t : Term) → Has ts t → IsOfDescription lists n t.row
 
 -- the number is `end` or greater, if an end is known
-abbrev pub is_behind : Option ℕ → ℕ → Bool
-is_behind None i = false
-is_behind (Some end) i = nat_le end i
+abbrev pub is_past : Option ℕ → ℕ → Bool
+is_past None i = false
+is_past (Some end) i = nat_le end i
 
 -- of the rows of descriptions in list `n`, those before `first` have no id greater than `after`;
 -- and those from `end` on have no smaller id than the kept ones, which are as many as allowed
@@ -98,7 +98,7 @@ pub record AreBounds (lists : List (List StampedRow)) (after : Option ℕ) (limi
   pub low : (i : ℕ) (at : RowPlace) → IsPlaceOfRow lists n i at → at.key.kind ≡ kinds.Description
       → i < b.first → is_above after at.key.id ≡ false
   pub high : (i : ℕ) (at : RowPlace) → IsPlaceOfRow lists n i at → at.key.kind ≡ kinds.Description
-      → is_behind b.end i ≡ true → IsFull limit kept at.key.id
+      → is_past b.end i ≡ true → IsFull limit kept at.key.id
 
 -- of those that count, the first by id are kept, as many as allowed
 pub record AreKept (lists : List (List StampedRow)) (search : Search) (seen kept : List Chosen)
@@ -106,7 +106,7 @@ pub record AreKept (lists : List (List StampedRow)) (search : Search) (seen kept
   pub ascending : IsAscending chosen_cmp kept
   pub few : length kept ≤ search.limit
   pub all : (k : Chosen) → Has seen k → Counts lists search k
-      → IsTaken search.limit kept k.at.key.id
+      → IsKeptOrBeyond search.limit kept k.at.key.id
   pub only : (k : Chosen) → Has kept k → Has seen k × Counts lists search k
 
 -- a term was added, with its folding at the end of the text

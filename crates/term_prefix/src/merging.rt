@@ -9,8 +9,8 @@ ghost use Rattle.term_prefix.specs.Private.{first_taken, second_taken, next_of, 
 
 use crate::postings::push_term;
 use crate::sealed::Sealed;
-use crate::text::{Term, compare, lent_at, piece};
-use as_of_index::{Numbers, TakenCount};
+use crate::text::{Term, compare, piece};
+use as_of_index::{Numbers, TakenCount, lent_at};
 use std::alloc::{AllocError, Global};
 use std::cmp::Ordering;
 use std::marker::Model;

@@ -13,7 +13,7 @@ ghost use Rattle.as_of_index.specs.Places.{Lists};
 ghost use Rattle.as_of_index.specs.Private.Chosen.{chosen, chosen_cmp};
 ghost use Rattle.as_of_index.specs.Private.Postings.{numbered};
 ghost use Rattle.term_prefix.specs.Pushed.{ArePosted};
-ghost use Rattle.term_prefix.specs.Private.{begun, chosen_at, is_behind, SaysTaken, SaysCandidate};
+ghost use Rattle.term_prefix.specs.Private.{begun, chosen_at, is_past, SaysFull, SaysCandidate};
 ghost use Rattle.term_prefix.specs.Private.{IsOfDescription, AreOfDescriptions, AreBounds, AreKept};
 
 use crate::Terms;
@@ -100,8 +100,8 @@ fn keep(kept: &mut Vec<Chosen>, limit: u32, segment: usize, at: RowPlace) -> Res
 }
 
 /// Whether the id need not be kept: as many are kept as allowed, none with a greater id.
-fn is_taken(kept: &[Chosen], limit: u32, id: u128) -> bool
-    ensures { IsAscending chosen_cmp kept.now → SaysTaken limit kept.now id result }
+fn is_full(kept: &[Chosen], limit: u32, id: u128) -> bool
+    ensures { IsAscending chosen_cmp kept.now → SaysFull limit kept.now id result }
 {
     match kept.last() {
         Some(last) => limit as usize <= kept.len() && last.at.key.id <= id,
@@ -122,7 +122,7 @@ fn judge(kept: &[Chosen], segment: usize, number: u32, index: &Index, search: &S
     if !is_above(search.after, id) {
         return Candidate::Low;
     }
-    if is_taken(kept, search.limit, id) {
+    if is_full(kept, search.limit, id) {
         return Candidate::High;
     }
     match index.current_at(segment, number, search.as_of) {
@@ -132,8 +132,8 @@ fn judge(kept: &[Chosen], segment: usize, number: u32, index: &Index, search: &S
 }
 
 /// Whether the number is `end` or greater, if an end is known.
-fn is_behind(end: Option<u32>, number: u32) -> bool
-    ensures { result ≡ is_behind end number }
+fn is_past(end: Option<u32>, number: u32) -> bool
+    ensures { result ≡ is_past end number }
 {
     match end {
         Some(end) => end <= number,
@@ -165,7 +165,7 @@ fn keep_row(
     if number < bounds.first {
         return Ok(());
     }
-    if is_behind(bounds.end, number) {
+    if is_past(bounds.end, number) {
         return Ok(());
     }
     match judge(kept, segment, number, index, search) {

@@ -32,13 +32,6 @@ pub(crate) fn piece(text: &[u8], start: usize, len: usize) -> &[u8]
     }
 }
 
-/// A reference to the term with this number, if there is one.
-pub(crate) fn lent_at(terms: &[Term], i: usize) -> Option<&Term>
-    ensures { option_copied result ≡ slice_get terms.now i }
-{
-    terms.get(i)
-}
-
 /// The byte at this position, or zero past the end of the text.
 fn byte_at(text: &[u8], place: usize) -> u8
     ensures { result ≡ get_or text.now place 0 }

@@ -63,20 +63,18 @@ fn pin_within(store: &Store<Spoiled>, pin: u32) -> Option<u32>
 }
 
 impl Example {
-    /// A new store of layout 2 on an empty disk.
-    pub fn new(alloc: Global) -> Result<Example, Refusal> {
-        store_of(Example::create(alloc, MemDisk::new(alloc)))
+    /// A new store of this layout on an empty disk.
+    pub fn new(alloc: Global, layout: Layout) -> Result<Example, Refusal> {
+        store_of(Example::create(alloc, MemDisk::new(alloc), layout))
     }
 
-    /// Makes a new store on this disk, or returns the disk.
-    pub fn create(alloc: Global, disk: MemDisk) -> Result<Example, (Refusal, MemDisk)> {
-        put_in_box(alloc, Store::create(alloc, sound(disk)))
-    }
-
-    /// A new store of layout 3.
-    pub fn new_in_three(alloc: Global) -> Result<Example, Refusal> {
-        let made = Store::create_in(alloc, sound(MemDisk::new(alloc)), Layout::Three);
-        store_of(put_in_box(alloc, made))
+    /// Makes a new store of this layout on this disk, or returns the disk.
+    pub fn create(
+        alloc: Global,
+        disk: MemDisk,
+        layout: Layout,
+    ) -> Result<Example, (Refusal, MemDisk)> {
+        put_in_box(alloc, Store::create(alloc, sound(disk), layout))
     }
 
     /// Opens the store that a disk represents, or returns the disk.

@@ -355,7 +355,8 @@ async def refused(problem: Problem, request: http.Request) -> http.Response:
     if FHIR_PATH.match(request.target):
         return refusal(problem)
     found = PATH.match(request.target.partition("?")[0])
-    page = await pages.refused(unquote(found[2]) if found else "", request, problem.text)
+    path, is_pinned = (unquote(found[2]), found[1] is not None) if found else ("", False)
+    page = await pages.refused(path, request, problem.text, is_pinned)
     return http.Response(problem.status, page.kind, page.body, headers_of(problem))
 
 

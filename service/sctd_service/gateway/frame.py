@@ -42,6 +42,8 @@ def template(name: str) -> Markup:
 FRAME = template("page.html")
 FORMS = {RECORD: template("form_record.html"), RECORDS: template("form_records.html"),
          CHANGES: template("form_changes.html")}
+# Below a pin no day can be named: both say as of which import a page is.
+KNOWN_FIELD = template("field_known.html")
 
 
 class Shown(NamedTuple):
@@ -59,7 +61,8 @@ class Answer(NamedTuple):
     headers: Headers = ()
 
 
-def framed(place: str, form: Mapping[str, str], shown: Shown, view: View | None) -> Answer:
+def framed(place: str, form: Mapping[str, str], shown: Shown, view: View | None,
+           is_pinned: bool) -> Answer:
     """One of the pages, with its form as it was filled in."""
     state, content = "", shown.content
     if view is not None and view.known:
@@ -67,7 +70,9 @@ def framed(place: str, form: Mapping[str, str], shown: Shown, view: View | None)
     if view is not None:
         latest = time(view.latest) if view.latest else "no date"
         state = joined("Pin %d. The store\u2019s latest release is of " % view.pin, latest, ".")
-    filled = FORMS[place].format(**{name: form.get(name, "") for name in WORDS[place]})
+    words = {name: form.get(name, "") for name in WORDS[place]}
+    words["known"] = "" if is_pinned else KNOWN_FIELD.format(known=words["known"])
+    filled = FORMS[place].format(**words)
     title = joined(" \u00b7 ".join(filter(None, (shown.title, TITLE))))
     page = FRAME.format(
         title=title, kind=LINKS[place][0].strip("./") or "record", pages=pages(place), form=filled,

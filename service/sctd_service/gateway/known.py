@@ -10,6 +10,7 @@ import re
 from collections.abc import Iterable
 from typing import Any
 
+from .fhir.parameters import said_in
 from .frame import day_of
 from .hub import HubGone, HubRefused
 from .pool import Pool
@@ -57,9 +58,5 @@ async def known_on(pool: Pool, day: str) -> Known | None:
 def with_known(resource: Json, known: Known | None) -> Json:
     """The answer with the day as of whose knowledge it is, if its kind has a place for that."""
     if known is not None:
-        said = {"name": SAID, "valueString": str(known)}
-        if resource["resourceType"] == "Parameters":
-            resource["parameter"].append(said)
-        elif resource["resourceType"] == "ValueSet" and "expansion" in resource:
-            resource["expansion"]["parameter"].append(said)
+        said_in(resource).append({"name": SAID, "valueString": str(known)})
     return resource

@@ -30,7 +30,7 @@ async def answer(edition: Edition, view: View, form: dict[str, str], is_pinned: 
         shown = await record(view, Question(edition, q, date, other, is_pinned))
     else:
         shown = Shown(q, verdict(NO_CONCEPT))
-    return framed(RECORD, form, shown, view)
+    return framed(RECORD, form, shown, view, is_pinned)
 
 
 async def results(view: View, q: str, day: str, other: str) -> Shown:

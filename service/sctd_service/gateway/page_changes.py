@@ -70,17 +70,18 @@ async def answer(edition: Edition, view: View, form: dict[str, str], is_pinned: 
     """The changes, as a page or as a file."""
     is_file, found = wants_file(form), between(view, form)
     if isinstance(found, Shown):
-        return framed(CHANGES, form, found, view)
+        return framed(CHANGES, form, found, view, is_pinned)
     if not await view.versions(found.concept):
         return framed(CHANGES, form, Shown(found.concept, verdict(
-            "The store has no concept ", tag("code", found.concept), ".")), view)
+            "The store has no concept ", tag("code", found.concept), ".")), view, is_pinned)
     by_concept = await changed_by_concept(view, found)
     codes = sorted(by_concept, key=int)
     if is_file:
         return await as_file(view, found, await described(view, found, codes, by_concept))
     some = codes[: limits.CHANGED_CONCEPTS]
     told = await described(view, found, some, by_concept)
-    return framed(CHANGES, form, await shown(view, found, told, len(codes), is_pinned), view)
+    told_of = await shown(view, found, told, len(codes), is_pinned)
+    return framed(CHANGES, form, told_of, view, is_pinned)
 
 
 def between(view: View, form: dict[str, str]) -> Between | Shown:

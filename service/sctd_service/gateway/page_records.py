@@ -67,7 +67,7 @@ async def answer(edition: Edition, view: View, form: dict[str, str], is_pinned: 
         raise invalid("paste a list or choose a file, but not both")
     if not (text or file) or not view.latest:
         purpose = verdict(PURPOSE if view.latest else EMPTY)
-        return framed(RECORDS, form, Shown("A list of records", purpose), view)
+        return framed(RECORDS, form, Shown("A list of records", purpose), view, is_pinned)
     if len((text or file).encode()) > limits.RECORDS_BYTES:
         raise too_costly("a list may have %d bytes: divide it" % limits.RECORDS_BYTES)
     records = await asyncio.to_thread(records_of, text or file)
@@ -75,7 +75,7 @@ async def answer(edition: Edition, view: View, form: dict[str, str], is_pinned: 
     if is_file:
         return await asyncio.to_thread(as_file, edition, view, found)
     shown = await page_of(view, found, is_pinned)
-    return framed(RECORDS, {**form, "list": text or file}, shown, view)
+    return framed(RECORDS, {**form, "list": text or file}, shown, view, is_pinned)
 
 
 async def judged(view: View, records: Sequence[Record]) -> list[Judged]:

@@ -66,7 +66,7 @@ async def answered(path: str, edition: Edition, view: View, words: dict[str, str
     return await PAGES[path].answer(edition, view, words, is_pinned)
 
 
-async def refused(path: str, request: Request, text: str) -> Answer:
+async def refused(path: str, request: Request, text: str, is_pinned: bool) -> Answer:
     """A refusal, which keeps what was filled in as far as that can be read."""
     content = tag("p", "Refused: ", text, class_="verdict", role="alert")
     pairs = list[tuple[str, str]]()
@@ -75,4 +75,4 @@ async def refused(path: str, request: Request, text: str) -> Answer:
         if request.method == "POST" and path in PAGES and PAGES[path].posted:
             pairs += await asyncio.to_thread(pairs_posted, request)
     place = path if path in WORDS else RECORD
-    return framed(place, dict(pairs), Shown("Refused", content), None)
+    return framed(place, dict(pairs), Shown("Refused", content), None, is_pinned)

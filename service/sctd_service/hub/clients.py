@@ -1,17 +1,20 @@
 """The hub's clients: connections, each of which is a session of the program."""
 
 import asyncio
+import os
 import select
 import socket
 import struct
+import time
 from collections import Counter
 from collections.abc import Coroutine, Sequence
 from typing import Optional, cast
 
 from ..logs import log, tell
-from ..protocol import REFUSED
+from .checking import without_notes
 from .digests import Digests
-from .lines import LINE_LIMIT, NOT_A_QUESTION, TOO_LONG, Lines, Sort, pin_after, without_cr
+from .lines import (
+    LINE_LIMIT, NOT_A_QUESTION, QUESTION, TOO_LONG, Lines, Sort, pin_after, without_cr)
 from .program import Program, ProgramEndedError
 from .store import Store
 
@@ -46,15 +49,17 @@ class Client(asyncio.Protocol):
     goes_alone = False
 
     def __init__(self, hub: "Hub", may_change: bool) -> None:
-        self.hub, self.may_change = hub, may_change
+        self.hub, self.may_change, self.inputs = hub, may_change, hub.program.inputs
         self.session, self.user, self.lines = 0, "nobody", Lines(LINE_LIMIT, may_change)
         self.pin: Optional[bytes] = None
         # How many lines are on their way, and what they were answered that isn't sent yet.
         self.flying, self.replies = 0, list[bytes]()
         # Whether it waits for a turn, has a line that the hub carries out, has replies to read.
         self.waits, self.is_busy, self.has_unread = False, False, False
-        self.is_at_end, self.is_gone, self.watches = False, False, False
-        self.heard = hub.loop.time()
+        # Whether it isn't read for now, since it has sent many lines, and whether it is told notes.
+        self.is_held, self.is_at_end, self.is_gone, self.watches = False, False, False, False
+        self.has_notes = False
+        self.heard, self.before_line = time.monotonic(), b""
 
     def connection_made(self, transport: asyncio.BaseTransport) -> None:
         self.transport = cast(asyncio.Transport, transport)
@@ -63,24 +68,30 @@ class Client(asyncio.Protocol):
         self.user = "user %d" % PEER.unpack(found)[1]
         # A client has its session until all that it was answered is sent.
         self.transport.set_write_buffer_limits(high=0)
-        self.session = self.hub.joined(self)
+        self.session, self.number = self.hub.joined(self), peer.fileno()
         if not self.session:
             self.transport.write(NO_SESSION)
             self.transport.close()
-        self.lines.limit = LINE_LIMIT - len("%d " % self.session)
+            return
+        self.before_line = b"%d " % self.session
+        self.lines.limit = LINE_LIMIT - len(self.before_line)
+        self.hub.loop.call_soon(self.begin)
 
-    def data_received(self, data: bytes) -> None:
-        if self.session:
-            self.heard = self.hub.loop.time()
+    def begin(self) -> None:
+        """Begins to be read, by the hub instead of by its transport."""
+        self.transport.pause_reading()
+        if not self.transport.is_closing():
+            self.inputs.add(self.number, self.take)
+
+    def take(self, data: bytes) -> None:
+        """Takes what was read; at the end the lines that have come are answered all the same."""
+        if data:
+            self.heard = time.monotonic()
             self.lines.feed(data)
-            self.go_on()
-
-    def eof_received(self) -> bool:
-        """The lines that have come are answered all the same."""
-        self.is_at_end = True
-        if self.session:
-            self.go_on()
-        return bool(self.session)
+        else:
+            self.is_at_end = True
+            self.inputs.remove(self.number)
+        self.go_on()
 
     def go_on(self) -> None:
         """Does what can be done now: answers lines, or waits for a turn to send questions."""
@@ -88,7 +99,7 @@ class Client(asyncio.Protocol):
             if not self.lines or self.waits or self.is_busy or self.has_unread or self.is_gone:
                 break
             sort, line = self.lines[0]
-            if sort is Sort.QUESTION:
+            if sort is QUESTION:
                 if self.flying <= LINES_A_CLIENT // 2:
                     self.waits = True
                     self.hub.program.wait(self)
@@ -100,43 +111,59 @@ class Client(asyncio.Protocol):
         else:
             # Others have their turn between the lines of one client.
             self.hub.loop.call_soon(self.go_on)
-        self.read_on()
+        if self.is_held or self.is_at_end or len(self.lines) > KEPT_LINES:
+            self.read_on()
 
     def read_on(self) -> None:
         """Reads no more lines than are kept, and ends where there will be none."""
         if self.is_gone:
             return
         if len(self.lines) > KEPT_LINES:
-            self.transport.pause_reading()
+            self.is_held = True
+            self.inputs.remove(self.number)
         elif not self.is_at_end:
-            self.transport.resume_reading()
+            if self.is_held:
+                self.is_held = False
+                self.inputs.add(self.number, self.take)
         elif not (self.lines or self.flying or self.waits or self.is_busy):
             self.transport.close()
 
     def turn(self, room: int) -> Sequence[bytes]:
         self.waits = False
-        lines, found = self.lines, list[bytes]()
+        lines, before, found = self.lines, self.before_line, list[bytes]()
         most = min(room, LINES_A_CLIENT - self.flying)
-        while lines and lines[0][0] is Sort.QUESTION and len(found) < most:
-            found.append(b"%d %s\n" % (self.session, lines.popleft()[1]))
+        while lines and lines[0][0] is QUESTION and len(found) < most:
+            found.append(before + lines.popleft()[1] + b"\n")
         self.flying += len(found)
         return found
 
-    def answered(self, line: bytes, reply: bytes) -> None:
+    def answered(self, line: bytes, reply: bytes) -> bool:
+        """Takes the reply; whether it is that to the last line on its way."""
         self.flying -= 1
-        self.pin = pin_after(line, reply, self.pin)
-        if words := self.hub.troubles():
-            reply = with_words(line, reply, words)
+        if reply.startswith(b"OK"):
+            self.pin = pin_after(line, reply, self.pin)
+            if words := self.hub.troubles():
+                reply = with_words(line, reply, words)
         self.replies.append(reply)
+        return self.flying == 0
 
     def flush(self) -> None:
-        self.send(b"".join(self.replies))
-        self.replies.clear()
-        self.go_on()
+        if self.replies:
+            replies, self.replies = self.replies, []
+            self.send(b"".join(replies))
+            if self.lines or self.is_at_end:
+                self.go_on()
 
     def send(self, reply: bytes) -> None:
-        if not self.is_gone:
-            self.transport.write(reply)
+        """Sends it. What can't be sent now is left to the transport, and so is what goes wrong."""
+        if self.is_gone:
+            return
+        try:
+            sent = 0 if self.has_unread else os.write(self.number, reply)
+        except OSError:
+            sent = 0
+        if sent < len(reply):
+            self.transport.write(reply[sent:])
             if self.has_unread:
                 self.hub.end_slowest()
 
@@ -148,12 +175,13 @@ class Client(asyncio.Protocol):
     def resume_writing(self) -> None:
         self.has_unread = False
         self.hub.unread.pop(self, None)
-        self.heard = self.hub.loop.time()
+        self.heard = time.monotonic()
         if not self.is_gone:
             self.go_on()
 
     def connection_lost(self, why: Optional[Exception]) -> None:
         self.is_gone = True
+        self.inputs.remove(self.number)
         self.lines.clear()
         self.hub.unread.pop(self, None)
         self.hub.digests.end_waiting(self)
@@ -172,6 +200,9 @@ class Client(asyncio.Protocol):
             self.send(self.hub.store.imports_told())
         elif sort is Sort.METRICS:
             self.send(self.hub.metrics_told())
+        elif sort is Sort.NOTES:
+            self.has_notes = True
+            self.send(b"OK\n")
         elif sort is Sort.IMPORTS:
             self.send(self.hub.store.list.told(self.hub.store.imports))
         elif sort is Sort.KNOWN:
@@ -210,12 +241,12 @@ class Client(asyncio.Protocol):
     def is_idle(self, seconds: float) -> bool:
         """Whether it has said nothing for so long, and waits for nothing."""
         works = self.flying or self.lines or self.is_busy or self.watches or self.has_unread
-        return not works and self.hub.loop.time() - self.heard > seconds
+        return not works and time.monotonic() - self.heard > seconds
 
 
 def with_words(line: bytes, reply: bytes, words: bytes) -> bytes:
     """A reply of a store with troubles: that to STATUS says so."""
-    is_status = without_cr(line[:-1]).endswith(b" STATUS") and not reply.startswith(REFUSED)
+    is_status = without_cr(line[:-1]).endswith(b" STATUS")
     return b"%s%s\n" % (reply[:-1], words) if is_status else reply
 
 
@@ -302,7 +333,8 @@ class Hub:
         if sort is Sort.BACKUP:
             return await self.store.backup(line)
         if sort is Sort.CHANGE:
-            return await self.store.change(client.session, line, client.user)
+            reply = await self.store.change(client.session, line, client.user)
+            return reply if client.has_notes else without_notes(reply)
         return await self.digests.reply(client, line, self.store.imports)
 
     def metrics_told(self) -> bytes:

@@ -11,7 +11,7 @@ import time
 from typing import Optional, Protocol
 
 from ..logs import log
-from ..protocol import REFUSED, last_line
+from ..protocol import FIRST_KEY, LATER_LAYOUT, REFUSED, last_line
 from .lines import pin_named, shown, without_cr
 from .program import SLOW_SECONDS, Program
 
@@ -19,9 +19,8 @@ from .program import SLOW_SECONDS, Program
 # be asked for them.
 MEMBERS = b"M"
 KINDS = (b"C", b"D", b"R", b"A", b"V", MEMBERS)
-NO_MEMBERS = b"ERR 14 "
 # What stands for the row before the first one.
-FIRST = b"- -"
+FIRST = FIRST_KEY.encode()
 # How many rows are asked for at a time.
 PAGE_ROWS = 250
 # How many digests are computed at a time. The others wait.
@@ -123,7 +122,7 @@ class Digests:
         line = b"AT %s ROWS %s %s %d" % (pin, kind, last, PAGE_ROWS)
         reply = await self.program.ask(client.session, line, client.user)
         end = last_line(reply)
-        if kind == MEMBERS and end.startswith(NO_MEMBERS):
+        if kind == MEMBERS and end.startswith(LATER_LAYOUT):
             return b""
         if end.startswith(REFUSED):
             raise PageRefused(end + LINE_END)

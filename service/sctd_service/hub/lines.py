@@ -13,6 +13,8 @@ LINE_LIMIT = 4096
 # A question that reads each row of the store, and the pin that it names. (The program refuses all
 # others with this word at once.)
 DIGEST = re.compile(rb"(?:AT ([0-9]{1,10}) )?DIGEST")
+# The words of most lines, none of which is a DIGEST.
+PLAIN = QUESTIONS - {b"AT", b"DIGEST"}
 # Lines that the hub carries out itself.
 BACKUP = b"BACKUP"
 # What a line is counted as, by its word.
@@ -36,17 +38,21 @@ class Sort(enum.Enum):
     METRICS = enum.auto()
     IMPORTS = enum.auto()
     KNOWN = enum.auto()
+    NOTES = enum.auto()
     REFUSED = enum.auto()
     LONG = enum.auto()
 
 
+# (What an enumeration has is found slowly, and most lines are of this sort.)
+QUESTION = Sort.QUESTION
+OWN_SORTS = (Sort.WATCH, Sort.METRICS, Sort.IMPORTS, Sort.KNOWN, Sort.NOTES)
 # The lines that anybody may ask of the hub itself.
-OWN = {name.name.encode(): name for name in (Sort.WATCH, Sort.METRICS, Sort.IMPORTS, Sort.KNOWN)}
+OWN = {name.name.encode(): name for name in OWN_SORTS}
 
 
 def without_cr(line: bytes) -> bytes:
     """The line as the program reads it, which takes one CR for a part of the line's end."""
-    return line[:-1] if line.endswith(b"\r") else line
+    return line.removesuffix(b"\r")
 
 
 def first_word(line: bytes) -> bytes:
@@ -55,8 +61,11 @@ def first_word(line: bytes) -> bytes:
 
 def kind_of(line: bytes) -> str:
     """What a line is counted as, which begins with its session: the question where AT is before."""
-    words = (*line.split(None, 4), b"", b"", b"", b"")
-    return KINDS.get(words[3] if words[1] == b"AT" else words[1], OTHER)
+    words = line.split(None, 4)
+    word = words[1] if len(words) > 1 else b""
+    if word == b"AT":
+        word = words[3] if len(words) > 3 else b""
+    return KINDS.get(word, OTHER)
 
 
 def pin_named(line: bytes) -> Optional[bytes]:
@@ -82,9 +91,11 @@ Line = tuple[Sort, bytes]
 
 def sort_of(line: bytes, may_change: bool) -> Sort:
     """What is done with a line of a client that may change the store, or may ask alone."""
+    if line.partition(b" ")[0] in PLAIN:
+        return QUESTION
     word = first_word(line)
     if word in QUESTIONS:
-        return Sort.DIGEST if DIGEST.fullmatch(without_cr(line)) else Sort.QUESTION
+        return Sort.DIGEST if DIGEST.fullmatch(without_cr(line)) else QUESTION
     if word in OWN:
         return OWN[word]
     if not may_change:
@@ -104,7 +115,11 @@ class Lines(deque[Line]):
 
     def feed(self, data: bytes) -> None:
         *whole, self.rest = (self.rest + data).split(b"\n")
-        self.extend(map(self.checked, whole))
+        for line in whole:
+            if self.is_long or len(line) > self.limit:
+                self.append(self.checked(line))
+            else:
+                self.append((sort_of(line, self.may_change), line))
         # (One byte more may be a CR.)
         if len(self.rest) > self.limit + 1:
             self.rest, self.is_long = b"", True

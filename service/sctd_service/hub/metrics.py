@@ -23,7 +23,8 @@ class Times:
     def add(self, seconds: float) -> None:
         self.counts[bisect_left(BOUNDS, seconds)] += 1
         self.sum += seconds
-        self.longest = max(self.longest, seconds)
+        if seconds > self.longest:
+            self.longest = seconds
 
     def samples(self, label: str) -> Iterator[Sample]:
         count = 0

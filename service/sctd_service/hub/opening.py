@@ -8,10 +8,9 @@ after a write or a sync has failed, Linux may keep there what the disk doesn't h
 
 import os
 import subprocess
-import time
 from pathlib import Path
 
-from ..logs import tell
+from ..logs import now, tell
 
 # The note that is left beside the store. While it is there, no store is made.
 NOTE = "first-start"
@@ -40,8 +39,7 @@ def make(program: str, store: str) -> None:
 
 def leave_note(note: Path, name: str) -> None:
     if not note.exists():
-        now = time.strftime("%Y-%m-%dT%H:%M:%SZ", time.gmtime())
-        note.write_text(NOTED % (now, name), encoding="utf-8")
+        note.write_text(NOTED % (now(), name), encoding="utf-8")
 
 
 def drop_pages(store: str, is_read_only: bool) -> None:

@@ -8,13 +8,16 @@ for a turn behind those that came before, and sends some of them in a turn.
 """
 
 import asyncio
+import os
 import time
 from collections import deque
 from collections.abc import Sequence
-from typing import Optional, Protocol, cast
+from typing import Protocol, cast
 
 from ..logs import log, tell
 from ..protocol import DAMAGED, DISK_FAULT, REFUSED, NotAReply, Replies, last_line
+from .checking import Told
+from .inputs import Inputs
 from .lines import shown
 from .metrics import Metrics
 
@@ -46,11 +49,11 @@ class Asker(Protocol):
     def turn(self, room: int) -> Sequence[bytes]:
         """The lines that it sends now, with the number of its session: not more than these."""
 
-    def answered(self, line: bytes, reply: bytes) -> None:
-        """Takes the reply to the first line that isn't answered yet."""
+    def answered(self, line: bytes, reply: bytes) -> bool:
+        """Takes the reply to the first line that isn't answered yet; whether that is the last."""
 
     def flush(self) -> None:
-        """Is called once the replies that came together are all told."""
+        """Is called once the last line is answered, or all replies that came together are told."""
 
 
 class Single:
@@ -63,9 +66,10 @@ class Single:
     def turn(self, room: int) -> Sequence[bytes]:
         return [self.line]
 
-    def answered(self, line: bytes, reply: bytes) -> None:
+    def answered(self, line: bytes, reply: bytes) -> bool:
         if not self.reply.done():
             self.reply.set_result(reply)
+        return True
 
     def flush(self) -> None:
         pass
@@ -80,6 +84,7 @@ class Program(asyncio.SubprocessProtocol):
     """The program that serves the store."""
 
     def __init__(self) -> None:
+        self.inputs = Inputs(self.give_turns)
         self.replies, self.metrics = Replies(), Metrics()
         self.on_their_way: deque[tuple[Asker, bytes]] = deque()
         self.waiting: deque[Asker] = deque()
@@ -87,7 +92,8 @@ class Program(asyncio.SubprocessProtocol):
         self.is_alone = False
         # Whether it is asked nothing any more, and since when the store is known to be damaged.
         self.is_over, self.is_open, self.damaged_at = False, False, ""
-        self.to_write: list[bytes] = []
+        # Whether all that it has said is read.
+        self.is_read_out = False
         # Since when the first line is answered that isn't answered yet.
         self.began = 0.0
         loop = asyncio.get_running_loop()
@@ -97,14 +103,22 @@ class Program(asyncio.SubprocessProtocol):
 
     @classmethod
     async def start(cls, words: Sequence[str]) -> "Program":
+        (output, its_end), notes = os.pipe(), Told()
+        os.set_blocking(output, False)
         transport, program = await asyncio.get_running_loop().subprocess_exec(
-            cls, *words, stderr=None, start_new_session=True)
-        program.transport = transport
+            cls, *words, stdout=its_end, stderr=notes.writer, start_new_session=True)
+        os.close(its_end)
+        notes.begin()
+        program.transport, program.output, program.notes = transport, output, notes
         program.input = cast(asyncio.WriteTransport, transport.get_pipe_transport(0))
+        # (Nothing is read before the first line is sent, even if the program answers that at once.)
+        program.inputs.add(output, program.told)
         return program
 
     transport: asyncio.SubprocessTransport
+    notes: Told
     input: asyncio.WriteTransport
+    output: int
 
     async def opened(self) -> bytes:
         """The reply to STATUS, once the store is open."""
@@ -126,37 +140,31 @@ class Program(asyncio.SubprocessProtocol):
     def wait(self, asker: Asker) -> None:
         """Gives a turn to whoever has a line, behind all who wait for one."""
         self.waiting.append(asker)
-        self.give_turns()
+        if not self.inputs.is_due:
+            self.inputs.soon()
 
     def give_turns(self) -> None:
-        """Sends lines of those that wait, as far as these may be on their way now."""
-        while self.waiting and not self.is_alone and not self.is_over:
-            room = MOST_ON_THEIR_WAY - len(self.on_their_way)
-            first = self.waiting[0]
-            if room <= 0 or (first.goes_alone and self.on_their_way):
-                return
-            self.waiting.popleft()
-            self.is_alone = first.goes_alone
-            self.send(first, first.turn(room))
-
-    def send(self, asker: Asker, lines: Sequence[bytes]) -> None:
-        """Sends lines. All that are sent in one turn of the loop are written at once."""
-        if not lines:
-            return
-        if not self.on_their_way:
+        """Sends lines of those that wait, as far as these may be on their way now. All are written
+        at once."""
+        waiting, sent, all_lines = self.waiting, self.on_their_way, list[bytes]()
+        if not sent:
             self.began = time.monotonic()
-        if not self.to_write:
-            asyncio.get_running_loop().call_soon(self.write)
-        self.on_their_way.extend([(asker, line) for line in lines])
-        self.to_write += lines
+        while waiting and not self.is_alone and not self.is_over:
+            room, first = MOST_ON_THEIR_WAY - len(sent), waiting[0]
+            if room <= 0 or (first.goes_alone and sent):
+                break
+            waiting.popleft()
+            self.is_alone = first.goes_alone
+            lines = first.turn(room)
+            sent.extend([(first, line) for line in lines])
+            all_lines += lines
+        if all_lines and not self.input.is_closing():
+            self.input.write(b"".join(all_lines))
 
-    def write(self) -> None:
-        if not self.input.is_closing():
-            self.input.write(b"".join(self.to_write))
-        self.to_write.clear()
-
-    def pipe_data_received(self, fd: int, data: bytes) -> None:
+    def told(self, data: bytes) -> None:
         """Tells each reply to whoever asked for it."""
+        if not data:
+            self.at_end()
         told: dict[Asker, None] = {}
         try:
             for reply in self.replies.feed(data):
@@ -165,14 +173,15 @@ class Program(asyncio.SubprocessProtocol):
                 asker, line = self.on_their_way.popleft()
                 self.is_alone = False
                 self.look_at(asker, line, reply)
-                asker.answered(line, reply)
-                told[asker] = None
+                if asker.answered(line, reply):
+                    asker.flush()
+                else:
+                    told[asker] = None
         except NotAReply:
             tell("hub: the program has said what isn't a reply")
             self.end(1)
         for asker in told:
             asker.flush()
-        self.give_turns()
 
     def is_read(self) -> bool:
         """Whether a reply that comes now is told to somebody."""
@@ -189,18 +198,22 @@ class Program(asyncio.SubprocessProtocol):
             self.metrics.took(line, took)
         if took > SLOW_SECONDS:
             log("%.1f s for %s of %s" % (took, without_session(line), asker.user))
-        if (last := last_line(reply)).startswith(REFUSED):
-            self.look_at_refusal(asker, line, last)
+        if reply.startswith(REFUSED, reply.rfind(b"\n", 0, -1) + 1):
+            self.look_at_refusal(asker, line, last_line(reply))
 
     def look_at_refusal(self, asker: Asker, line: bytes, last: bytes) -> None:
         if (last + b" ").startswith(DISK_FAULT):
             # It is told, and no reply after it.
             self.end(1)
-        elif last.startswith(DAMAGED) and self.is_open and not self.damaged_at:
+        elif last.startswith(DAMAGED) and self.is_open:
+            self.note_damage(without_session(line), asker.user, last)
+
+    def note_damage(self, line: str, user: str, reply: bytes) -> None:
+        """Tells the first time that the store was found to be damaged."""
+        if not self.damaged_at:
             self.damaged_at = log(
                 "the store is damaged: %s of %s was answered %s. Restore your copy: `sctd status` "
-                "tells of a copy of the file which segment it is"
-                % (without_session(line), asker.user, shown(last)))
+                "tells of a copy of the file which segment it is" % (line, user, shown(reply)))
 
     def end(self, status: int) -> None:
         """Ends the waiting of all who would be told a reply."""
@@ -211,18 +224,20 @@ class Program(asyncio.SubprocessProtocol):
             if isinstance(asker, Single):
                 asker.end(status)
 
-    def pipe_connection_lost(self, fd: int, exc: Optional[Exception]) -> None:
-        if fd == 1 and not self.exited.done():
-            self.is_over = True
+    def at_end(self) -> None:
+        """What the program has said is read."""
+        self.inputs.remove(self.output)
+        os.close(self.output)
+        self.is_over = self.is_read_out = True
+        if self.exited.done():
+            self.end(self.status())
 
     def process_exited(self) -> None:
         self.exited.set_result(None)
         # (Another process may still have its output.)
-        asyncio.get_running_loop().call_later(LAST_SECONDS, lambda: self.end(self.status()))
-
-    def connection_lost(self, exc: Optional[Exception]) -> None:
-        """The program has ended, and what it has said is read."""
-        self.end(self.status())
+        self.notes.read()
+        seconds = 0 if self.is_read_out else LAST_SECONDS
+        asyncio.get_running_loop().call_later(seconds, lambda: self.end(self.status()))
 
     def status(self) -> int:
         """The status to end with where the program ended by itself; 1 where a signal ended it."""

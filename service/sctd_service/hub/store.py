@@ -5,11 +5,13 @@ import asyncio
 import contextlib
 import os
 import threading
+import time
 from collections.abc import Callable
 from typing import Optional
 
-from ..logs import log, tell
-from ..protocol import REFUSED
+from ..logs import log, pass_on, tell
+from ..protocol import DAMAGED, REFUSED, REPLY, last_line
+from .checking import COPY_ENDING, MOST_NOTES, TASKS, carried_out, with_notes
 from .imports import ENDING, FIRST_LINE, NOTHING, Hashing, ImportList, sync_folder
 from .lines import BACKUP, first_word, shown, without_cr
 from .program import HUB_SESSION, Program, ProgramEndedError
@@ -18,11 +20,9 @@ from .program import HUB_SESSION, Program, ProgramEndedError
 STEP = b"STEP 1000"
 # The most segments that a store may have.
 MOST_SEGMENTS = 250
-# The lines that are answered for a release, and for which a store that is full is merged first.
 IMPORT = b"IMPORT"
-FOR_RELEASES = (IMPORT, b"CHECK")
 # The lines whose replies are logged, and those of which only refusals are.
-LOGGED = (*FOR_RELEASES, b"PUBLISH")
+LOGGED = (IMPORT, *TASKS, b"PUBLISH")
 LOGGED_REFUSED = (b"MERGE", b"STEP", b"ABANDON", b"TRIM")
 # How many bytes of a copy are written at a time.
 COPY_SIZE = 1 << 20
@@ -58,6 +58,8 @@ class Store:
         self.may_merge = asyncio.Event()
         # The client's session that has begun a merge.
         self.merging: Optional[int] = None
+        # Held while a release is checked on a copy of the store.
+        self.checks = asyncio.Lock()
         self.copying: Optional[Copying] = None
         # What is known of the imports, and the release whose files are hashed.
         self.list = ImportList(path)
@@ -65,33 +67,90 @@ class Store:
 
     async def change(self, session: int, line: bytes, user: str = "hub") -> bytes:
         """The reply to a line that may change the store, once it is logged."""
-        asking = self.imported if first_word(line) in FOR_RELEASES else self.asked
+        word = first_word(line)
+        asking = (self.imported if word == IMPORT else self.checked_release if word in TASKS
+                  else self.asked)
         try:
             reply = await asking(session, line, user)
         except ProgramEndedError:
-            if session != HUB_SESSION and first_word(line) in LOGGED:
+            if session != HUB_SESSION and word in LOGGED:
                 log("%s: no reply" % shown(without_cr(line)))
             raise
-        self.note_reply(session, line, reply[:-1])
+        self.note_reply(session, line, last_line(reply))
         return reply
 
     async def imported(self, session: int, line: bytes, user: str) -> bytes:
-        """The reply to an import, or to the check of one, for which room is made first."""
+        """The reply to an import, for which room is made first, with what the program told of it.
+        """
         async with self.imports_lock:
             await self.make_room()
-            if first_word(line) != IMPORT:
-                return await self.asked(session, line, user)
-            name = without_cr(line).partition(b" ")[2]
+            name = name_in(line)
             self.hashing = Hashing(self.releases, name)
             digest = asyncio.get_running_loop().run_in_executor(None, self.hashing.digest)
             try:
-                reply = await self.asked(session, line, user)
+                reply, notes = await self.asked_and_told(session, line, user)
                 if not reply.startswith(REFUSED):
                     await self.listed(reply, name, await digest, user)
-                return reply
+                return with_notes(notes, reply)
             finally:
                 self.hashing.is_stopped.set()
                 self.hashing = None
+
+    async def asked_and_told(self, session: int, line: bytes, user: str) -> (
+            tuple[bytes, list[bytes]]):
+        """The reply to a line for a release, and what the program told of it."""
+        async with self.changes:
+            self.program.notes.taken()
+            reply = await self.program.ask(session, line, user, alone=True)
+            return reply, self.program.notes.taken()
+
+    async def checked_release(self, session: int, line: bytes, user: str) -> bytes:
+        """The reply to the check of an import, with what is told of it: by another program on a
+        copy of the store, so that no other line waits for it, or by this one where there can be no
+        copy."""
+        name = name_in(line)
+        async with self.checks, contextlib.AsyncExitStack() as until_checked:
+            async with self.imports_lock:
+                await self.make_room()
+                copy = await self.copy_for(name)
+                if copy is None:
+                    reply, notes = await self.asked_and_told(session, line, user)
+                    return with_notes(notes, reply)
+            until_checked.callback(copy.end)
+            began = time.monotonic()
+            said, told = await carried_out(
+                self.command, *TASKS[first_word(line)], "--store", copy.path, "--releases",
+                self.releases, "--", name)
+            self.program.metrics.took(b"%d %s" % (session, line), time.monotonic() - began)
+        pass_on(told)
+        if not REPLY.fullmatch(said):
+            said = b"ERR hub Check the program ended\n"
+        if said.startswith(DAMAGED):
+            self.program.note_damage(shown(without_cr(line)), user, said[:-1])
+        return with_notes(told.splitlines()[-MOST_NOTES:], said)
+
+    async def copy_for(self, name: bytes) -> "Optional[NewFile]":
+        """A copy of the store to check a release on; none where there is no folder of this name,
+        or no copy can be made."""
+        path = self.path + COPY_ENDING
+        if b"/" in name or not os.path.isdir(os.path.join(os.fsencode(self.releases), name)):
+            return None
+        with contextlib.suppress(OSError):
+            os.unlink(path)  # A hub that was killed may have left one.
+        try:
+            async with self.changes:
+                return await self.in_thread(Copying(self.path, self.file, path, is_kept=False))
+        except Refused as why:
+            log("no copy to check on: %s" % why)
+            return None
+
+    async def in_thread(self, copying: "Copying") -> "NewFile":
+        """Makes a copy while the loop goes on."""
+        self.copying = copying
+        try:
+            return await asyncio.to_thread(copying.copy)
+        finally:
+            self.copying = None
 
     async def listed(self, reply: bytes, name: bytes, digest: str, user: str) -> None:
         """Adds the line of an import that was answered so to the list."""
@@ -197,7 +256,7 @@ class Store:
 
     async def backup(self, line: bytes) -> bytes:
         """The reply to BACKUP."""
-        name = without_cr(line).partition(b" ")[2]
+        name = name_in(line)
         try:
             reply = await self.copied(name)
         except Refused as failed:
@@ -213,36 +272,19 @@ class Store:
         async with self.imports_lock, self.changes:
             wanted = (await self.status())[:4]
             text = self.list.text()
-            self.copying = Copying(self.path, self.file, path)
-            try:
-                made = await asyncio.to_thread(self.copying.copy)
-            finally:
-                self.copying = None
+            made = await self.in_thread(Copying(self.path, self.file, path))
         with contextlib.closing(made):
-            found, why = await self.checked(made)
             try:
+                found, why = map(bytes.rstrip, await carried_out(
+                    self.command, "status", "--store", made.path))
                 if found.split(b" ")[:4] != wanted:
                     raise Refused("the copy is answered %s, %s" % (shown(found), shown(why)))
                 if text != FIRST_LINE:
                     await asyncio.to_thread(copy_list, path + ENDING, text)
-            except Refused:
+            except (Refused, asyncio.CancelledError):
                 made.remove()
                 raise
         return b" ".join(wanted)
-
-    async def checked(self, made: "NewFile") -> tuple[bytes, bytes]:
-        """What `sctd status` answers of a copy, and what it says beside that."""
-        checking = await asyncio.create_subprocess_exec(
-            self.command, "status", "--store", made.path, stdin=asyncio.subprocess.DEVNULL,
-            stdout=asyncio.subprocess.PIPE, stderr=asyncio.subprocess.PIPE)
-        try:
-            said, why = await checking.communicate()
-        except asyncio.CancelledError:
-            checking.kill()
-            await checking.wait()
-            made.remove()
-            raise
-        return said.rstrip(b"\n"), why.rstrip(b"\n")
 
     def stop_copying(self) -> None:
         if self.copying is not None:
@@ -254,6 +296,11 @@ class Store:
             self.hashing.is_stopped.set()
         elif self.list.unwritten:
             await self.list.write()
+
+
+def name_in(line: bytes) -> bytes:
+    """The name that stands behind a line's first word."""
+    return without_cr(line).partition(b" ")[2]
 
 
 def path_of(name: bytes) -> str:
@@ -280,7 +327,6 @@ class NewFile:
 
     def sync(self) -> None:
         """Makes sure that the file and its name are on the disk, and nowhere else."""
-        self.file.flush()
         os.fsync(self.file.fileno())
         # What is checked then is what the disk has.
         os.posix_fadvise(self.file.fileno(), 0, 0, os.POSIX_FADV_DONTNEED)
@@ -294,22 +340,28 @@ class NewFile:
                 return
         tell("hub: %s: not removed: the file was replaced or removed" % self.path)
 
+    def end(self) -> None:
+        self.remove()
+        self.close()
+
     def close(self) -> None:
         # What is left to write after a fault of the disk can't be written.
         with contextlib.suppress(OSError):
             self.file.close()
 
 
-def filled(path: str, fill: Callable[[NewFile], None]) -> NewFile:
-    """Makes a new file, and syncs it and its folder. If that fails, the file is removed."""
+def filled(path: str, fill: Callable[[NewFile], None], is_kept: bool = True) -> NewFile:
+    """Makes a new file, and syncs it and its folder if it is to be kept. If that fails, the file is
+    removed."""
     try:
         made = NewFile(path)
         try:
             fill(made)
-            made.sync()
+            made.file.flush()
+            if is_kept:
+                made.sync()
         except BaseException:
-            made.remove()
-            made.close()
+            made.end()
             raise
     except OSError as why:
         raise Refused(why.strerror or str(why)) from None
@@ -330,12 +382,12 @@ def copy_list(path: str, text: bytes) -> None:
 class Copying:
     """A copy of the store's file that is being made. It is made in a thread of its own."""
 
-    def __init__(self, source: str, stat: os.stat_result, path: str) -> None:
-        self.source, self.stat, self.path = source, stat, path
+    def __init__(self, source: str, stat: os.stat_result, path: str, is_kept: bool = True) -> None:
+        self.source, self.stat, self.path, self.is_kept = source, stat, path, is_kept
         self.is_stopped = threading.Event()
 
     def copy(self) -> NewFile:
-        return filled(self.path, self.fill)
+        return filled(self.path, self.fill, self.is_kept)
 
     def fill(self, made: NewFile) -> None:
         """Copies the store's file into the new one."""

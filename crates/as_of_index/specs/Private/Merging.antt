@@ -4,7 +4,7 @@ use Rattle.as_of_index.specs.Merging.{PostingKind}
 
 -- posting `i` of this list comes next: it exists, and posting `j` of the other list, if that
 -- exists, isn't below it
-pub record IsNext {X : Type 0} (kind : PostingKind X) (own : List X) (i : ℕ) (other : List X)
+pub record ComesNext {X : Type 0} (kind : PostingKind X) (own : List X) (i : ℕ) (other : List X)
     (j : ℕ) : Type 0 where
   pub x : X
   pub there : slice_get own i ≡ Some x

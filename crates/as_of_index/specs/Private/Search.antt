@@ -148,9 +148,9 @@ pub record IsLeastOf (start : Start) {X : Type 0} (place : X → RowPlace) (xs :
   pub least : (x : X) → Has xs x → is_before start (place x) ≡ false
       → place_cmp (place x) (place b) ≡ Less → ⊥
 
-unfoldable pub IsNext : Start → {X : Type 0} → (X → RowPlace) → List X → Option X → Type 0
-IsNext start place xs None = (x : _) → Has xs x → is_before start (place x) ≡ true
-IsNext start place xs (Some b) = IsLeastOf start place xs b
+unfoldable pub IsFirstFrom : Start → {X : Type 0} → (X → RowPlace) → List X → Option X → Type 0
+IsFirstFrom start place xs None = (x : _) → Has xs x → is_before start (place x) ≡ true
+IsFirstFrom start place xs (Some b) = IsLeastOf start place xs b
 
 -- of the best so far and the one of list `n`, the one with the smaller key; the best so far if they
 -- tie

@@ -79,15 +79,19 @@ def ways_of(operation: str) -> Ways:
     return Ways(having(HAS, OWN), having(OVER, ALSO))
 
 
+def said_in(resource: Json) -> list[Json]:
+    """What is said beside an answer, in a list of its own if its kind has a place for that."""
+    if resource["resourceType"] == "ValueSet" and "expansion" in resource:
+        resource = resource["expansion"]
+    found: list[Json] = resource.get("parameter", [])
+    return found
+
+
 def with_warnings(resource: Json, texts: Sequence[str]) -> Json:
     """The answer, with what was passed over if its kind has a place for that."""
-    said: list[Json] = [{"name": "warning", "valueString": text} for text in texts]
-    kind = resource["resourceType"]
-    if kind == "Parameters":
-        resource["parameter"] += said
-    elif kind == "ValueSet" and "expansion" in resource:
-        resource["expansion"]["parameter"] += said
-    elif kind == "Bundle" and said:
+    place = said_in(resource)
+    place += [{"name": "warning", "valueString": text} for text in texts]
+    if resource["resourceType"] == "Bundle" and texts:
         warned = outcome_of("warning", "not-supported", texts)
         resource.setdefault("entry", []).append({"resource": warned, "search": {"mode": "outcome"}})
     return resource

@@ -1,4 +1,4 @@
-use Rattle.std.proofs.Common.{◌≡◌, ◌+◌, ◌≤◌, List, take, map}
+use Rattle.std.proofs.Common.{◌+◌, ◌≤◌, List, take, map}
 use Rattle.std.specs.List.{sum_by, AllZip}
 use Rattle.as_of_index.specs.Reader.{IsReadFor}
 use Rattle.history_model.specs.declared.stamped.StampedRow.{StampedRow}

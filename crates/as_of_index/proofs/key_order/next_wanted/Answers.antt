@@ -12,5 +12,5 @@ returns-in_default c =
     let a = c.args in
     elim c.in_default.branch [
       | in_default-via-in-Some+else-is_of_kind w ↦ later_is a.kind a.after c.start_from-start.result (all_places 0 a.lists.now) c.start_from-start.ensures (w.in-Some.segment, w.in-Some.p) w.in-Some.ensures (sym w.is_of_kind.ensures ∙ w.if-is_of_kind.false)
-      | in_default-via-in_default w ↦ none_is a.kind a.after c.start_from-start.result (all_places 0 a.lists.now) c.start_from-start.ensures (rw w.in_default.is at c.next.ensures)
+      | in_default-via-in_default w ↦ none_is a.kind a.after c.start_from-start.result (all_places 0 a.lists.now) c.start_from-start.ensures (rw w.in_default.is at c.next_on.ensures)
     ]

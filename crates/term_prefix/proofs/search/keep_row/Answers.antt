@@ -7,10 +7,10 @@ returns-then-number-bounds c = λ lists listed_so described seen start bounds.
     let a = c.args in
     (low_left lists a.search.now a.segment a.number seen a.kept.now.items start (λ at place. bounds.low a.number at place (described at place) c.if-number-bounds.true), bounds)
 
-pub returns-then-is_behind : goal.returns-then-is_behind
-returns-then-is_behind c = λ lists listed_so described seen start bounds.
+pub returns-then-is_past : goal.returns-then-is_past
+returns-then-is_past c = λ lists listed_so described seen start bounds.
     let a = c.args in
-    (high_left lists a.search.now a.segment a.number seen a.kept.now.items start (λ at place. bounds.high a.number at place (described at place) (sym c.is_behind.ensures ∙ c.if-is_behind.true)), bounds)
+    (high_left lists a.search.now a.segment a.number seen a.kept.now.items start (λ at place. bounds.high a.number at place (described at place) (sym c.is_past.ensures ∙ c.if-is_past.true)), bounds)
 
 pub returns-in-Low : goal.returns-in-Low
 returns-in-Low c = λ lists listed_so described seen start bounds.

@@ -1,8 +1,7 @@
 use Rattle.std.specs.Option.{option_to_list}
 use Rattle.std.specs.List.{sum_by}
-use Rattle.std.proofs.Common.{◌≡◌, [], Option, Some, None, sym, ap, ◌∙◌, rules, arith}
+use Rattle.std.proofs.Common.{◌≡◌, [], Option, Some, None, ap, rules, arith}
 use Rattle.rf2_values.specs.Row.{RowValue}
-use Rattle.history_model.specs.declared.stamped.StampedRow.{StampedRow}
 use Rattle.as_of_index.proofs.Reading.{not_read, fails_on}
 use Rattle.as_of_index.proofs.Returned.{reads_one}
 use Rattle.as_of_index.proofs.index.Index.get.Goals as goal

@@ -114,7 +114,7 @@ returns-in_err-found-in-Some-clause-answer g c =
             work_always = omega arith;
           };
       work = search rules;
-      reader = fails_on _ _ _ _ _ c.from_residual.ensures.1 so_far.reader c.in_err-found-in-Some.ensures.reader;
+      reader = fails_on _ _ _ _ _ c.from_residual-in_err-found-in-Some.ensures.1 so_far.reader c.in_err-found-in-Some.ensures.reader;
     }
 
 pub returns-in_err-push-in-Some-clause-answer : goal.returns-in_err-push-in-Some-clause-answer

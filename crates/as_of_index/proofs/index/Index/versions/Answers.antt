@@ -2,7 +2,7 @@ use Rattle.std.specs.Prelude.{nat_le}
 use Rattle.std.specs.List.{sum_by, AllZip}
 use Rattle.std.proofs.lemmas.Bool.Decides.{nat_tests}
 use Rattle.std.proofs.lemmas.List.Sums.{sum_by_push}
-use Rattle.std.proofs.Common.{Ok, ◌≡◌, ℕ, ◌<◌, ◌≤◌, true, false, [], ◌∷◌, ◌++◌, map, refl, sym, ap, subst, ◌∙◌, arith, rules}
+use Rattle.std.proofs.Common.{Ok, ◌≡◌, ℕ, ◌<◌, ◌≤◌, true, false, [], ◌∷◌, ◌++◌, refl, sym, ap, subst, arith, rules}
 use Rattle.history_model.specs.History.{rows_at}
 use Rattle.history_model.specs.Lists.{listed}
 use Rattle.history_model.proofs.Snapshots.{versions-above_none}

@@ -1,9 +1,7 @@
-use Rattle.std.proofs.Common.{Ok, ◌≡◌, true, ◌-◌, [], ◌∷◌, ◌++◌, map, refl, Some, None, length, sym, ap, subst, ◌∙◌, arith, rules}
+use Rattle.std.proofs.Common.{Ok, ◌≡◌, ◌-◌, [], ◌∷◌, ◌++◌, refl, Some, None, length, sym, ap, subst, ◌∙◌, arith, rules}
 use Rattle.std.proofs.lemmas.List.{length_push}
 use Rattle.std.specs.List.{sum_by, AllZip}
 use Rattle.std.proofs.lemmas.List.Sums.{sum_by_push}
-use Rattle.history_model.specs.declared.stamped.StampedRow.{StampedRow}
-use Rattle.history_model.specs.Queries.{is_above}
 use Rattle.segment.specs.Standing.{StandsAt}
 use Rattle.as_of_index.specs.declared.search.Start.TheVariants.{Components}
 use Rattle.as_of_index.specs.Private.Search.{changed_parts, ArePassed}

@@ -3,7 +3,7 @@ use Rattle.std.proofs.Common.{ap, refl}
 use Rattle.directory.specs.Listings.{DirectoryValue}
 use Rattle.history_store.specs.Catalog.{catalog_of}
 use Rattle.history_store.proofs.Held.{held_first, held_stands, new_history}
-use Rattle.history_store.proofs.store.Store.create_in.Goals as goal
+use Rattle.history_store.proofs.store.Store.create.Goals as goal
 
 pub invariant_of-result : goal.invariant_of-result
 invariant_of-result g c = (
