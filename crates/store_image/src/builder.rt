@@ -19,6 +19,8 @@ pub trait SegmentBuilder: Drop {
     ghost rows: { Self → List StampedRow };
     /// The rows of a segment.
     ghost sealed: { Self.Segment → List StampedRow };
+    /// What holds of each value for a segment, besides its rows.
+    ghost is_built: { Self.Segment → Type 0 };
 
     /// A builder without rows, with capacity for the places of `count` rows.
     fn with_capacity(alloc: Global, count: usize) -> Result<Self, AllocError>
@@ -30,9 +32,10 @@ pub trait SegmentBuilder: Drop {
         ensures { OnOk result (rows self.new ≡ rows self.old ++ row.now ∷ []) };
 
     /// The value for the segment, once all its rows were pushed.
-    fn seal(self) -> Self::Segment
+    fn seal(self) -> Result<Self::Segment, AllocError>
         requires { IsAscending stamped_cmp (rows self) }
-        ensures { sealed result ≡ rows self };
+        ensures rows { IfOk result (λ segment. sealed segment ≡ rows self) }
+        ensures built { IfOk result is_built };
 
     /// The places of a segment's rows.
     fn places(segment: &Self::Segment) -> &[RowPlace]

@@ -2,6 +2,7 @@
 
 ghost use Rattle.std.specs.Prelude.{◌≡◌, ◌⊎◌, ◌↔◌, ◌+◌, ◌≤◌, length, map};
 ghost use Rattle.std.specs.Prelude.{IfOk, IfErr, MatchResult};
+ghost use Rattle.std.specs.List.{AllByRecursion};
 ghost use Rattle.disk_model.specs.Disk.{IsImage, LeavesOnly, raised_by};
 ghost use Rattle.disk_model.specs.View.{OnlyReads, Calls, AtMost};
 ghost use Rattle.blocks.specs.Slots.{other_read, slots_read};
@@ -49,6 +50,9 @@ pub fn load<D: Disk, B: SegmentBuilder>(
     // On every disk, the loaded parts are consistent.
     // promise: a_store_is_opened_as_it_was_left
     ensures kept { IfOk result (λ l. IsKept l.directory (map B.sealed l.segments.items)) }
+    // Each value is as its builder says.
+    // promise: a_store_is_opened_as_it_was_left
+    ensures built { IfOk result (λ l. AllByRecursion B.is_built l.segments.items) }
     // A crash at any moment leaves what it might have left before.
     ensures any_moment { (D.view disk.old).is_honest
         → LeavesOnly (D.view disk.old).moments (D.view disk.new).moments

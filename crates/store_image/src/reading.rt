@@ -54,6 +54,7 @@ pub(crate) fn read_segments<D: Disk, B: SegmentBuilder>(
     requires { AllByRecursion IsEntry entries.now }
     ensures read { IfOk result
         (λ segments. AreRead imports entries.now (map B.sealed segments.items)) }
+    ensures built { IfOk result (λ segments. AllByRecursion B.is_built segments.items) }
     ensures exact { (D.view disk.old).is_honest → MatchResult result
         (λ segments. HoldsAll (pieces_of entries.now (map B.sealed segments.items))
         (D.view disk.old).moments.state.now)
@@ -99,6 +100,7 @@ fn read_segment<D: Disk, B: SegmentBuilder>(
     ensures sum { IfOk result
         (λ segment. HasSumOf entry.sums (segment_with entry (B.sealed segment))) }
     ensures numbered { IfOk result (λ segment. AreNumbered imports (B.sealed segment)) }
+    ensures built { IfOk result B.is_built }
     ensures exact { (D.view disk.old).is_honest → MatchResult result
         (λ segment. IsAt (D.view disk.old).moments.state.now entry (B.sealed segment))
         (λ e. IsNotReadAt e imports entry (D.view disk.old).moments.state.now) }
@@ -111,7 +113,7 @@ fn read_segment<D: Disk, B: SegmentBuilder>(
     check_room(disk, entry)?;
     window.begin(entry.extent(), entry.form());
     let builder = read_rows::<D, B>(alloc, disk, window, entry, imports)?;
-    Ok(builder.seal())
+    Ok(builder.seal()?)
 }
 
 /// Checks that the disk is long enough for an entry, and that as many rows as it says fit in as

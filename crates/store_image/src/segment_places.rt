@@ -49,6 +49,8 @@ impl SegmentBuilder for SegmentPlaces {
 
     ghost sealed = { λ s. s };
 
+    ghost is_built = { λ _. Unit {0} };
+
     fn with_capacity(alloc: Global, count: usize) -> Result<SegmentPlaces, AllocError> {
         Ok(SegmentPlaces {
             places: Vec::with_capacity(alloc, count)?,
@@ -69,8 +71,8 @@ impl SegmentBuilder for SegmentPlaces {
         Ok(())
     }
 
-    fn seal(self) -> SegmentPlaces {
-        self
+    fn seal(self) -> Result<SegmentPlaces, AllocError> {
+        Ok(self)
     }
 
     fn places(segment: &SegmentPlaces) -> &[RowPlace] {
