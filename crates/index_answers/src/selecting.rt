@@ -1,6 +1,6 @@
 //! Selects the rows that a question asks for.
 
-ghost use Rattle.std.specs.Prelude.{◌≡◌, IfOk, IfSome, MatchOption, option_to_list};
+ghost use Rattle.std.specs.Prelude.{◌≡◌, true, false, IfOk, MatchOption, option_to_list};
 ghost use Rattle.history_model.specs.History.{rows_at};
 ghost use Rattle.history_model.specs.Lists.{listed};
 ghost use Rattle.history_model.specs.Queries.{get};
@@ -10,7 +10,7 @@ ghost use Rattle.as_of_index.specs.Reader.{IsRowsRead, IsRowsReadBy};
 ghost use Rattle.question_model.specs.Questions.{row_question_of};
 ghost use Rattle.question_model.specs.Wanted.{rows_for};
 ghost use Rattle.index_answers.specs.Keys.{is_put_in_order};
-ghost use Rattle.index_answers.specs.Words.{LacksWords};
+ghost use Rattle.index_answers.specs.Words.{lacks_words};
 
 use as_of_index::{AsOf, Index, ReadFault, RowReader};
 use links::{about, called, members, replacements, replaces, timeline, values};
@@ -62,14 +62,12 @@ pub fn select<R: RowReader>(
     // promise: an_answer_is_the_defined_one, keys_are_right_on_every_disk, no_damage_is_invented
     // promise: a_question_reads_only_its_rows
     ensures answer { MatchOption result
-        (LacksWords (row_question_of question.now) index.now.words × (reader.new ≡ reader.old))
-        (λ read. IsRowsReadBy (is_put_in_order (row_question_of question.now)) read
-        (λ rows. rows.items)
+        ((lacks_words (row_question_of question.now) index.now.words ≡ true)
+        × (reader.new ≡ reader.old))
+        (λ read. (lacks_words (row_question_of question.now) index.now.words ≡ false)
+        × IsRowsReadBy (is_put_in_order (row_question_of question.now)) read (λ rows. rows.items)
         (λ lists. rows_for (row_question_of question.now) (rows_at pin (listed lists)))
         (λ lists. lists ≡ index.now.lists) R.cost (R.view reader.old) (R.view reader.new)) }
-    // promise: an_answer_is_the_defined_one
-    ensures kept { IfSome result
-        (λ read. LacksWords (row_question_of question.now) index.now.words → ⊥) }
     ensures stays { R.stays reader.old reader.new }
 {
     let places = index.places();
