@@ -2,7 +2,7 @@
 
 use history_model::StampedRow;
 use segment::RowPlace;
-use segment_index::{IndexBuilder, SegmentIndex};
+use segment_index::{IndexBuilder, SegmentIndex, Words};
 use std::alloc::{AllocError, Global};
 use store_image::SegmentBuilder;
 
@@ -14,13 +14,22 @@ pub(crate) struct ReadIndex {
 
 impl SegmentBuilder for ReadIndex {
     type Segment = SegmentIndex;
+    type Options = Words;
 
-    ghost rows = { λ s. s.index };
+    ghost options = { λ s. s.index.words };
 
-    ghost sealed = { λ s. s };
+    ghost rows = { λ s. s.index.rows };
 
-    fn with_capacity(alloc: Global, count: usize) -> Result<ReadIndex, AllocError> {
-        let index = IndexBuilder::with_capacity(alloc, count)?;
+    ghost sealed = { λ s. s.rows };
+
+    ghost built_with = { λ s. s.words };
+
+    fn with_capacity(
+        alloc: Global,
+        count: usize,
+        told: Words,
+    ) -> Result<ReadIndex, AllocError> {
+        let index = IndexBuilder::with_capacity(alloc, count, told)?;
         Ok(ReadIndex { index })
     }
 
@@ -28,7 +37,7 @@ impl SegmentBuilder for ReadIndex {
         self.index.push(row)
     }
 
-    fn seal(self) -> SegmentIndex {
+    fn seal(self) -> Result<SegmentIndex, AllocError> {
         self.index.seal()
     }
 

@@ -30,7 +30,7 @@ pub returns-clause-read : goal.returns-clause-read
 returns-clause-read g c =
     let low = c.if-row-imports.false in
     let above = c.comes_after.ensures.0 c.if-not-comes_after.false in
-    more_are_read c.args.to c.args.imports c.in_ok-row.at c.crc_to.result c.key-key.result (g.B.SegmentBuilder.rows c.args.builder.now) _ c.in_ok-row.row c.requires.rows c.in_ok-row.ensures.is c.in_ok-row.ensures.next (omega (arith, low)) c.key-key.ensures.key above c.in_ok-push.ensures
+    more_are_read c.args.to c.args.imports c.in_ok-row.at c.crc_to.result c.key-key.result (g.B.SegmentBuilder.rows c.args.builder.now) _ c.in_ok-row.row c.requires.rows c.in_ok-row.ensures.is c.in_ok-row.ensures.next (omega (arith, low)) c.key-key.ensures.key above c.in_ok-push.ensures.rows
 
 pub crc_to-requires-clause-up : goal.crc_to-requires-clause-up
 crc_to-requires-clause-up g c = let next = c.in_ok-row.ensures.next in omega (arith, next)
