@@ -5,3 +5,4 @@ pub use Rattle.rf2_values.specs.Row
 pub use Rattle.history_model.specs.InOrder
 pub use Rattle.history_model.specs.Queries
 pub mod Words
+pub mod Laws
