@@ -190,6 +190,7 @@ impl<D: Disk> Store<D> {
         ensures brings { IfOk result
             (BringsByKey (full self.old.history) (IsStored D.view self.old) release) }
         ensures is_read { IfOk result (λ fresh. IsRead release) }
+        ensures words { self.new.words ≡ self.old.words }
         ensures refused { IfErr result (λ e. IsNotFresh (D.view self.old.disk).is_honest
             (IsStored D.view self.old) e (full self.old.history) release) }
         ensures still { IfOk result (λ fresh. IsStill self.old self.new) }
@@ -221,6 +222,7 @@ impl<D: Disk> Store<D> {
         ensures step { IsStep result self.old self.new
             (with_imports self.old.history next.imports)
             (catalog_of next self.old.catalog.merge) }
+        ensures words { self.new.words ≡ self.old.words }
         ensures crash { IsCrashSafe D.view
             (λ c. RepresentsAs self.old.catalog.layout self.old.history c
             ⊎ RepresentsAs next.layout (with_imports self.old.history next.imports) c)
@@ -259,6 +261,7 @@ impl<D: Disk> Store<D> {
         ensures step { IsStep result self.old self.new
             (with_rows self.old.history prepared.index.rows)
             (catalog_of prepared.directory self.old.catalog.merge) }
+        ensures words { self.new.words ≡ self.old.words }
         ensures crash { IsCrashSafe D.view
             (λ c. RepresentsAs self.old.catalog.layout self.old.history c
             ⊎ RepresentsAs (next_layout self.old.catalog.layout)
@@ -306,6 +309,7 @@ impl<D: Disk> Store<D> {
         // promise: older_layouts_stay_readable, free_blocks_are_found_again
         ensures answer { (D.view self.old.disk).is_honest
             → IsImportOf result self.old self.new release }
+        ensures words { self.new.words ≡ self.old.words }
         // What is promised on every disk.
         // promise: a_refusal_names_its_cause, a_release_is_taken_whole_or_not_at_all
         // promise: members_need_layout_3, older_layouts_stay_readable, no_damage_is_invented
