@@ -1,7 +1,6 @@
 //! The queries of a store. None of them changes its contents.
 
 ghost use Rattle.std.specs.Prelude.{◌≡◌, ◌≤◌, IfOk, IfErr, MatchResult, Ok, Err, true, false};
-
 ghost use Rattle.question_model.specs.Questions.{row_question_of};
 ghost use Rattle.history_store.specs.Queries.{lacks_words};
 

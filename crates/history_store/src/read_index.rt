@@ -14,6 +14,7 @@ pub(crate) struct ReadIndex {
 
 impl SegmentBuilder for ReadIndex {
     type Segment = SegmentIndex;
+
     type Options = Words;
 
     ghost options = { λ s. s.index.words };
@@ -24,11 +25,7 @@ impl SegmentBuilder for ReadIndex {
 
     ghost built_with = { λ s. s.words };
 
-    fn with_capacity(
-        alloc: Global,
-        count: usize,
-        told: Words,
-    ) -> Result<ReadIndex, AllocError> {
+    fn with_capacity(alloc: Global, count: usize, told: Words) -> Result<ReadIndex, AllocError> {
         let index = IndexBuilder::with_capacity(alloc, count, told)?;
         Ok(ReadIndex { index })
     }
