@@ -29,7 +29,7 @@ use crate::told_lines::ToldLines;
 use crate::words::{Action, Refused, Task, Work, task_of};
 use directory::Layout;
 use disk_model::MemDisk;
-use history_store::{Refusal, Store};
+use history_store::{Refusal, Store, Words};
 use line_commands::import_request;
 use line_server::{Held, LineRefusal, ServeFault};
 use std::alloc::Global;
@@ -227,6 +227,14 @@ fn use_at<H: Host, I: Read, O: Write, E: Write>(
     }
 }
 
+/// Whether the work needs the words of the store: only a server is asked for them.
+fn words_for(work: &Work<'_>) -> Words {
+    match work {
+        Work::Serve { .. } => Words::Kept,
+        _ => Words::LeftOut,
+    }
+}
+
 /// Opens the store of a disk, and works with it.
 fn open_and_work<H: Host, I: Read, O: Write, E: Write>(
     host: &H,
@@ -242,7 +250,7 @@ fn open_and_work<H: Host, I: Read, O: Write, E: Write>(
         (streams (I.remaining input.old) (I.remaining input.new)
         (O.contents output.old) (O.contents output.new)) }
 {
-    match Store::open(alloc, disk) {
+    match Store::open(alloc, disk, words_for(work)) {
         Ok(store) => {
             let mut store = store;
             let ended = do_work(host, alloc, path, work, &mut store, input, output, faults);

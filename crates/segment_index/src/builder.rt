@@ -7,7 +7,7 @@ ghost use Rattle.segment.specs.Records.{segment_of};
 ghost use Rattle.term_prefix.specs.Pushed.{posted_term};
 ghost use Rattle.term_words.specs.Posted.{posted_words};
 ghost use Rattle.links.specs.Edges.{edges_of, joined_edges};
-ghost use Rattle.segment_index.specs.declared.words.Words.TheVariants as words;
+ghost use Rattle.segment_index.specs.declared.words.Words.TheVariants.{Kept};
 
 use crate::sealed::SegmentIndex;
 use crate::words::Words;
@@ -50,7 +50,7 @@ fn post_words(
     row: &StampedRow,
     number: u32,
 ) -> Result<(), AllocError>
-    ensures ok { words ≡ words.Kept
+    ensures ok { words ≡ Kept
         → OnOk result (posted.new ≡ posted.old ++ posted_words row.now.row number) }
     ensures err { OnErr result (posted.new ≡ posted.old) }
 {
@@ -93,7 +93,7 @@ fn post(
 ) -> Result<(), AllocError>
     ensures ok { OnOk result ((terms.new ≡ terms.old ++ posted_term row.now.row number)
         × (links.new ≡ joined_edges links.old (edges_of row.now.row number))) }
-    ensures words { words ≡ words.Kept
+    ensures words { words ≡ Kept
         → OnOk result (posted.new ≡ posted.old ++ posted_words row.now.row number) }
     ensures err { OnErr result ((terms.new ≡ terms.old) × (links.new ≡ links.old)
         × (posted.new ≡ posted.old)) }

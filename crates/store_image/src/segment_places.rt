@@ -45,13 +45,17 @@ impl SegmentPlaces {
 impl SegmentBuilder for SegmentPlaces {
     type Segment = SegmentPlaces;
 
+    type Options = ();
+
     ghost rows = { λ s. s };
 
     ghost sealed = { λ s. s };
 
-    ghost is_built = { λ _. Unit {0} };
+    ghost options = { λ _. tt };
 
-    fn with_capacity(alloc: Global, count: usize) -> Result<SegmentPlaces, AllocError> {
+    ghost built_with = { λ _. tt };
+
+    fn with_capacity(alloc: Global, count: usize, _told: ()) -> Result<SegmentPlaces, AllocError> {
         Ok(SegmentPlaces {
             places: Vec::with_capacity(alloc, count)?,
             rows: GhostRows::new(alloc),

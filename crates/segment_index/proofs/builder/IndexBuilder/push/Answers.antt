@@ -37,4 +37,4 @@ invariant_of-self-in-Err-post c =
     let inside = c.self.inside in
     let rows = row_taken_away inside.rows c.push-2.new.self c.cut_to-in-Err-post.new.self c.args.row.now c.len-len.result c.len-len.ensures c.in_default.ensures.ok c.cut_to-in-Err-post.ensures in
     let places = place_taken_away inside.rows inside.places c.push.new.self c.cut_to-in-Err-post-2.new.self c.new-at.result c.len-len.result c.self.invariant.places_are c.len-len.ensures c.in_ok-push.ensures.ok c.cut_to-in-Err-post-2.ensures in
-    built_same inside.words inside.rows c.cut_to-in-Err-post.new.self inside.places c.cut_to-in-Err-post-2.new.self inside.terms c.post.new.terms inside.links c.post.new.links inside.posted_words c.post.new.posted inside.bytes c.self.invariant rows places c.in-Err-post.ensures.err.0 c.in-Err-post.ensures.err.1.0 c.in-Err-post.ensures.err.1.1
+    built_same inside.words inside.rows c.cut_to-in-Err-post.new.self inside.places c.cut_to-in-Err-post-2.new.self inside.terms c.post.new.terms inside.links c.post.new.links inside.posted_words c.post.new.posted inside.bytes c.self.invariant rows places c.in-Err-post.ensures.err.0 c.in-Err-post.ensures.err.1 c.in-Err-post.ensures.err.2
