@@ -6,8 +6,8 @@ ghost use Rattle.line_commands.specs.Private.{IsQuestionReadAs, IsQuestionOf, co
 ghost use Rattle.line_commands.specs.Private.{text_of_question};
 
 use crate::columns::{
-    after, any_number, component, component_after, date, identifier, key_after, kind, limit, prefix,
-    sctid_of, subject, text_of_words, type_of,
+    after, any_number, component, component_after, date, identifier, key_after, kind, limit,
+    prefix, sctid_of, subject, text_of_words, type_of,
 };
 use crate::words::{QuestionWord, Words, cut_into};
 use question_model::{IdQuestion, Question, RowQuestion};
@@ -278,7 +278,8 @@ fn columns_of(word: QuestionWord) -> usize
         | QuestionWord::Members
         | QuestionWord::Values
         | QuestionWord::AllRows => 4,
-        QuestionWord::Words | QuestionWord::Delta | QuestionWord::Sources | QuestionWord::Added => 5,
+        QuestionWord::Words | QuestionWord::Delta | QuestionWord::Sources | QuestionWord::Added =>
+            5,
     }
 }
 

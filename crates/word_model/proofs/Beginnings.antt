@@ -1,6 +1,6 @@
 -- The words of a text, and those of a text that begins with it.
 use Rattle.std.proofs.Common.{◌≡◌, ℕ, Bool, true, false, cond, List, [], ◌∷◌, ◌++◌, map, refl, sym, ap, subst, inl, inr, ◌∙◌, arith, append_assoc}
-use Rattle.std.specs.Prelude.{nat_eq, chars, flat_map, encode_utf8_all}
+use Rattle.std.specs.Prelude.{nat_eq, ◌||◌, chars, flat_map, encode_utf8, encode_utf8_all}
 use Rattle.std.specs.List.{filter, list_any, list_all, starts_with, slice_split, onto_first}
 use Rattle.std.specs.Str.{IsUtf8}
 use Rattle.std.proofs.lemmas.Bool.{and_parts, and_from}
@@ -20,7 +20,7 @@ module _ {X : Type 0} (p : X → Bool) where
   pub any_from : (xs : List X) (x : X) → Has xs x → p x ≡ true → list_any p xs ≡ true
   any_from [] x h e = absurd h
   any_from (y ∷ ys) x h e =
-      elim (p y) as (λ b. (Has ys x → list_any p ys ≡ true) → (p y ≡ b) → cond b true (list_any p ys) ≡ true) [
+      elim (p y) as (λ b. (Has ys x → list_any p ys ≡ true) → (p y ≡ b) → (b || list_any p ys) ≡ true) [
         | true ↦ λ later is. refl
         | false ↦ λ later is. elim h [
           | inl s ↦ absurd (let f : p x ≡ false = subst (λ z. p z ≡ false) s is in cc)
@@ -31,7 +31,7 @@ module _ {X : Type 0} (p : X → Bool) where
   pub any_to : (xs : List X) → list_any p xs ≡ true → (x : X) × Has xs x × (p x ≡ true)
   any_to [] e = absurd (cc)
   any_to (y ∷ ys) e =
-      elim (p y) as (λ b. (p y ≡ b) → cond b true (list_any p ys) ≡ true → (x : X) × Has (y ∷ ys) x × (p x ≡ true)) [
+      elim (p y) as (λ b. (p y ≡ b) → (b || list_any p ys) ≡ true → (x : X) × Has (y ∷ ys) x × (p x ≡ true)) [
         | true ↦ λ is some. (y, inl refl, is)
         | false ↦ λ is some. let w = any_to ys some in (w.0, inr w.1, w.2)
       ] refl e
@@ -68,7 +68,7 @@ starts_through a b c first second =
 chars_begin : (short long rest : List ℕ) → encode_utf8_all long ≡ encode_utf8_all short ++ rest → (more : List ℕ) × (long ≡ short ++ more)
 chars_begin [] long rest e = (long, refl)
 chars_begin (c ∷ short) long rest e =
-    let first = cons_from_encodes long (encode_utf8_all short ++ rest) c (e ∙ append_assoc (encode_utf8_all (c ∷ [])) (encode_utf8_all short) rest) in
+    let first = cons_from_encodes long (encode_utf8_all short ++ rest) c (e ∙ append_assoc (encode_utf8 c) (encode_utf8_all short) rest) in
     let others = chars_begin short first.0 rest first.2 in
     (others.0, first.1 ∙ ap (λ cs. c ∷ cs) others.1)
 

@@ -1,8 +1,6 @@
 -- Which rows are found by words.
-use Rattle.std.proofs.Common.{◌≡◌, ℕ, Bool, true, false, List, ◌++◌, refl, sym, ap, inl, inr, ◌∙◌}
-use Rattle.std.specs.Prelude.{◌&&◌, Option, Some, None}
-use Rattle.std.specs.List.{filter}
-use Rattle.std.specs.Ordering.{nat_cmp}
+use Rattle.std.proofs.Common.{◌≡◌, ℕ, true, List, [], ◌++◌, refl, sym, inl, inr, ◌∙◌}
+use Rattle.std.specs.Prelude.{Option, None}
 use Rattle.std.specs.Cmp.{ranked}
 use Rattle.std.specs.declared.cmp.Ordering.TheVariants.{Equal}
 use Rattle.std.proofs.lemmas.Bool.{and_parts, and_from}
@@ -11,7 +9,6 @@ use Rattle.rf2_values.specs.declared.row.Kind.TheVariants.{Description}
 use Rattle.rf2_values.specs.declared.row.Body.{Body}
 use Rattle.rf2_values.specs.declared.row.Body.TheVariants as body
 use Rattle.rf2_values.specs.Row.{RowValue, kind_of, kind_of_body}
-use Rattle.history_model.specs.InOrder.{Has}
 use Rattle.history_model.specs.Queries.{snapshot, begins_with, is_term, is_term_above, terms_above}
 use Rattle.history_model.proofs.InOrder.{Has-put_all_cases, Has-put_all_new}
 use Rattle.history_model.proofs.Filtered.{Has-filter, Has-filter_from}

@@ -2,7 +2,7 @@
 -- those of a text do. `rows` are the rows that a pin shows, in key order.
 use Rattle.std.specs.Prelude.{ℕ, Bool, true, false, ◌&&◌, ◌||◌, ◌==◌, not, nat_eq, Option}
 use Rattle.std.specs.Prelude.{Some, None, List, [], ◌∷◌, take, drop, map, flat_map, length, chars}
-use Rattle.std.specs.Prelude.{encode_utf8_all, if◌then◌else◌}
+use Rattle.std.specs.Prelude.{encode_utf8_all}
 use Rattle.std.specs.List.{filter, list_any, list_all, starts_with, slice_split}
 use Rattle.std.specs.Ordering.{nat_cmp, ordering_then}
 use Rattle.std.specs.declared.cmp.Ordering.{Ordering}
