@@ -16,10 +16,6 @@ use Rattle.blocks.specs.Slots.{slot_extent}
 use Rattle.directory.specs.declared.entry.Entry.{Entry}
 use Rattle.directory.specs.Places.{extent_of}
 use Rattle.as_of_index.specs.Reader.{AreFor}
-use Rattle.question_model.specs.Questions.{RowQuestion}
-use Rattle.question_model.specs.Questions as questions
-use Rattle.segment_index.specs.declared.words.Words.{Words}
-use Rattle.segment_index.specs.declared.words.Words.TheVariants as words
 use Rattle.history_store.specs.declared.refusal.Refusal.{Refusal}
 use Rattle.history_store.specs.declared.refusal.Refusal.TheVariants as refusals
 use Rattle.history_store.specs.Catalog.{reserved_by}
@@ -135,11 +131,6 @@ abbrev pub IsRowsQueryBy : {T D : Type 0} → (put_in_order : Bool) → Result T
     → StoreValue D → StoreValue D → Type 0
 IsRowsQueryBy put_in_order result rows_of wanted pin =
     IsRowsQueryOf put_in_order result rows_of (λ rows. wanted (rows_at pin rows))
-
--- whether the question is for words, and words are left out
-abbrev pub lacks_words : RowQuestion → Words → Bool
-lacks_words (questions.Words date wanted_type offset limit text) words.LeftOut = true
-lacks_words _ _ = false
 
 -- A query for words that the store leaves out: it is refused, as every call is if the store has to
 -- be opened again, and nothing changes.

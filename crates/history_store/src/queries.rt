@@ -1,8 +1,6 @@
 //! The queries of a store. None of them changes its contents.
 
 ghost use Rattle.std.specs.Prelude.{◌≡◌, ◌≤◌, IfOk, IfErr, MatchResult, Ok, Err, true, false};
-ghost use Rattle.question_model.specs.Questions.{row_question_of};
-ghost use Rattle.history_store.specs.Queries.{lacks_words};
 
 use crate::brought::receipt_of;
 use crate::reading::DiskRows;
@@ -14,24 +12,14 @@ use history_model::ImportReceipt;
 use index_answers::{ids, select};
 use question_model::{IdQuestion, RowQuestion};
 use rf2_rows::{EffectiveTime, Row};
-use segment_index::Words;
-
-/// Whether the question is for words, and words are left out.
-fn lacks_words(question: &RowQuestion<'_>, words: Words) -> bool
-    ensures { result ≡ lacks_words (row_question_of question.now) words }
-{
-    match (question, words) {
-        (RowQuestion::Words { .. }, Words::LeftOut) => true,
-        _ => false,
-    }
-}
 
 impl<D: Disk> Store<D> {
     ghost use Rattle.history_model.specs.Brought.{ImportReceiptOf};
     ghost use Rattle.history_model.specs.Queries.{dates};
-    ghost use Rattle.question_model.specs.Questions.{id_question_of};
+    ghost use Rattle.question_model.specs.Questions.{row_question_of, id_question_of};
     ghost use Rattle.question_model.specs.Wanted.{rows_for, AreIdsFor};
     ghost use Rattle.index_answers.specs.Keys.{is_put_in_order};
+    ghost use Rattle.index_answers.specs.Words.{lacks_words};
     ghost use Rattle.history_store.specs.Answers.{IsReadingOf};
     ghost use Rattle.history_store.specs.Queries.{IsRowsQueryBy, IsIndexQuery, IsNotKept};
     ghost use Rattle.history_store.specs.Refusals.{of_read};
@@ -82,17 +70,16 @@ impl<D: Disk> Store<D> {
         if self.needs_reopen {
             return Err(Refusal::ReopenNeeded);
         }
-        if lacks_words(question, self.index.keeps_words()) {
-            return Err(Refusal::NotKept);
-        }
         let mut reader = DiskRows::new(
             &mut self.disk,
             &mut self.cache,
             &self.directory,
             &self.index,
         );
-        let read = select(self.alloc, &self.index, &mut reader, question, pin);
-        self.answered(read)
+        match select(self.alloc, &self.index, &mut reader, question, pin) {
+            Some(read) => self.answered(read),
+            None => Err(Refusal::NotKept),
+        }
     }
 
     /// The concepts that a question finds in the rows that the first `pin` imports brought. Reads
