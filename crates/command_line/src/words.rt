@@ -206,7 +206,7 @@ fn without<'a>(alloc: Global) -> Arg<'a>
     Arg::new(alloc, "without")
         .long("without")
         .value_name("WHAT")
-        .help("Leaves out `words`: opens in less time and memory, and refuses WORDS")
+        .help("Opens in less time and memory, and refuses WORDS")
         .value_parser(ValueParser::Names(&["words"]))
         .action(ArgAction::Set)
 }
