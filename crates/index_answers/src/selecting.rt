@@ -15,7 +15,7 @@ ghost use Rattle.index_answers.specs.Words.{lacks_words};
 use as_of_index::{AsOf, Index, ReadFault, RowReader};
 use links::{about, called, members, replacements, replaces, timeline, values};
 use question_model::RowQuestion;
-use rf2_values::{Kind, Row};
+use rf2_values::{Kind, Row, Sctid};
 use segment_index::StoreIndex;
 use std::alloc::{AllocError, Global};
 use term_prefix::{Search, find};
@@ -48,6 +48,16 @@ fn get<R: RowReader>(
 {
     let found = places.get(reader, kind, id, as_of)?;
     Ok(as_list(alloc, found)?)
+}
+
+/// The identifier as a number, if there is one.
+fn number_of(id: Option<Sctid>) -> Option<u64>
+    ensures { result ≡ id }
+{
+    match id {
+        None => None,
+        Some(id) => Some(id.value()),
+    }
 }
 
 /// The rows that a question finds in those that the first `pin` imports brought. None if the
@@ -124,7 +134,7 @@ pub fn select<R: RowReader>(
         } => {
             let search = WordSearch {
                 as_of: AsOf { date, pin },
-                wanted_type: wanted_type.map(|id| id.value()),
+                wanted_type: number_of(wanted_type),
                 offset,
                 limit,
             };
