@@ -3,7 +3,7 @@
 ghost use Rattle.std.specs.Prelude.{◌≡◌, ◌≤◌, ◌⊎◌, ℕ, map, string_bytes};
 ghost use Rattle.line_server.specs.Streams.{streams};
 ghost use Rattle.command_line.specs.Endings.{report};
-ghost use Rattle.command_line.specs.Tasks.{IsWorkDone, IsWorkOnDisk, held_of};
+ghost use Rattle.command_line.specs.Tasks.{IsWorkDone, IsWorkOnDisk, held_of, words_for};
 ghost use Rattle.command_line.specs.Hosts.{MakesAsBefore};
 ghost use Rattle.command_line.specs.declared.host.Mode.TheVariants.{Open};
 ghost use Rattle.command_line.specs.Runs.{Does, IsActionDone, IsMadeAt, FindsFolder, IsUsed};
@@ -200,6 +200,7 @@ fn has_folder<H: Host, E: Write>(host: &H, work: &Work<'_>, faults: &mut E) -> b
         Work::Serve {
             releases,
             read_only: false,
+            ..
         } => host.has_folder(*releases, faults),
         _ => true,
     }
@@ -227,10 +228,12 @@ fn use_at<H: Host, I: Read, O: Write, E: Write>(
     }
 }
 
-/// Whether the work needs the words of the store: only a server is asked for them.
-fn words_for(work: &Work<'_>) -> Words {
+/// Whether the work needs the words of the store: a server does, unless they are to be left out.
+fn words_for(work: &Work<'_>) -> Words
+    ensures { result ≡ words_for work.now }
+{
     match work {
-        Work::Serve { .. } => Words::Kept,
+        Work::Serve { words, .. } => *words,
         _ => Words::LeftOut,
     }
 }
@@ -311,6 +314,7 @@ fn do_work<'a, H: Host, I: Read, O: Write, E: Write>(
         Work::Serve {
             releases,
             read_only,
+            ..
         } => {
             let mut source = FolderSource::new(host, *releases, faults, "importing", true);
             serve_all(

@@ -302,9 +302,14 @@ impl Indexed {
     pub fn post_merged(&mut self, alloc: Global, posted: Posted) -> Result<(), AllocError> {
         let (mut terms, mut links) = (Terms::new(alloc)?, Links::new(alloc)?);
         let mut words = WordLists::new(alloc)?;
-        terms.add(posted.terms);
-        words.add(posted.words);
-        links.add(posted.links);
+        let Posted {
+            terms: own_terms,
+            words: own_words,
+            links: own_links,
+        } = posted;
+        terms.add(own_terms);
+        words.add(own_words);
+        links.add(own_links);
         self.terms = terms;
         self.words = words;
         self.links = links;

@@ -1,5 +1,7 @@
 -- Answers one after the other.
-use Rattle.std.proofs.Common.{◌≡◌, ℕ, ◌<◌, ◌≤◌, List, [], ◌∷◌, ◌++◌, ◌+◌, zero, suc, length, take, drop, refl, sym, ap, subst, ◌∙◌, arith}
+use Rattle.std.proofs.Common.{◌≡◌, ℕ, ◌<◌, ◌≤◌, List, [], ◌∷◌, ◌++◌, ◌+◌, ◌⊎◌, length, take, drop, sym, ap, subst, inl, inr, ◌∙◌, arith, take_all, drop-drop, length-take-le, take-append-drop}
+use Rattle.std.proofs.lemmas.Bool.{cases_lt}
+use Rattle.std.proofs.lemmas.List.{drop_all}
 use Rattle.std.specs.Prelude.{Option, Some, None}
 use Rattle.std.proofs.lemmas.Option.{same_Some, none-some}
 use Rattle.rf2_values.specs.Row.{RowValue}
@@ -28,21 +30,21 @@ own_most limit most n is short = subst (λ m. n < m) (sym (same_Some limit most 
 
 -- ---- after so many items
 
-drop_both : {X : Type 0} (n m : ℕ) (xs : List X) → drop m (drop n xs) ≡ drop (n + m) xs
-drop_both zero m xs = refl
-drop_both (suc n) zero [] = refl
-drop_both (suc n) (suc m) [] = refl
-drop_both (suc n) m (x ∷ xs) = drop_both n m xs
+left_over : {X : Type 0} (limit : ℕ) (xs : List X) → drop (length (take limit xs)) xs ≡ drop limit xs
+left_over limit xs = turned (cases_lt (length xs) limit) where
+  turned : (length xs < limit) ⊎ (limit ≤ length xs) → drop (length (take limit xs)) xs ≡ drop limit xs
+  turned (inl short) =
+      ap (λ ys. drop (length ys) xs) (take_all limit xs (omega arith))
+      ∙ drop_all (length xs) xs (omega arith) ∙ sym (drop_all limit xs (omega arith))
+  turned (inr enough) = ap (λ n. drop n xs) (length-take-le limit xs enough)
 
 first_and_rest : {X : Type 0} (limit : ℕ) (xs : List X) → xs ≡ take limit xs ++ drop (length (take limit xs)) xs
-first_and_rest zero xs = refl
-first_and_rest (suc n) [] = refl
-first_and_rest (suc n) (x ∷ xs) = ap (λ ys. x ∷ ys) (first_and_rest n xs)
+first_and_rest limit xs = sym (take-append-drop limit xs) ∙ ap (λ ys. take limit xs ++ ys) (sym (left_over limit xs))
 
 page_and_rest : {X : Type 0} (offset limit : ℕ) (xs : List X) → drop offset xs ≡ take limit (drop offset xs) ++ drop (offset + length (take limit (drop offset xs))) xs
 page_and_rest offset limit xs =
     first_and_rest limit (drop offset xs)
-    ∙ ap (λ ys. take limit (drop offset xs) ++ ys) (drop_both offset (length (take limit (drop offset xs))) xs)
+    ∙ ap (λ ys. take limit (drop offset xs) ++ ys) (drop-drop (length (take limit (drop offset xs))) offset xs)
 
 no_more : {X : Type 0} (limit : ℕ) (xs : List X) → 1 ≤ limit → take limit xs ≡ [] → xs ≡ []
 no_more limit xs some e = let nothing = ap length e in take_short limit xs (omega (arith, nothing, some)) ∙ e
