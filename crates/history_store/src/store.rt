@@ -144,9 +144,8 @@ impl<D: Disk> Store<D> {
         }
     }
 
-    /// Opens the store that a disk represents, and keeps words of it or leaves them out, whatever was
-    /// done before: only memory has them. Syncs the disk once and then reads it; every refusal
-    /// returns the disk.
+    /// Opens the store that a disk represents, and keeps its words or leaves them out: only memory
+    /// has them. Syncs the disk once and then reads it; every refusal returns the disk.
     pub fn open(alloc: Global, disk: D, words: Words) -> Result<Store<D>, (Refusal, D)>
         // promise: a_refusal_names_its_cause, what_is_cached_is_not_read_again
         // promise: a_confirmed_import_survives, a_crash_leaves_the_old_or_the_new

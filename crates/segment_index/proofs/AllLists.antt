@@ -28,7 +28,7 @@ use Rattle.segment_index.proofs.Built.{with_words}
 
 -- some lists of rows, whose words are kept or left out
 abbrev pub all_with_words : Words → List (List StampedRow) → StoreRows
-all_with_words kept lists = record { lists = lists; words = kept }
+all_with_words keeps lists = record { lists = lists; words = keeps }
 
 -- ---- the first of some lists
 
@@ -58,8 +58,8 @@ places_count lists places are = ap (λ (l : List (List RowPlace)). length l) are
 
 -- ---- no lists
 
-pub none_kept : (kept : Words) (lists : List (List StampedRow)) (places : List (List RowPlace)) (terms : List (List TermAt)) (links : List Edges) (posted : List (List TermAt)) → lists ≡ [] → places ≡ [] → terms ≡ [] → links ≡ [] → posted ≡ [] → AreIndexed (all_with_words kept lists) places terms links posted
-none_kept kept lists places terms links posted none no_places no_terms no_links no_words = record {
+pub none_kept : (keeps : Words) (lists : List (List StampedRow)) (places : List (List RowPlace)) (terms : List (List TermAt)) (links : List Edges) (posted : List (List TermAt)) → lists ≡ [] → places ≡ [] → terms ≡ [] → links ≡ [] → posted ≡ [] → AreIndexed (all_with_words keeps lists) places terms links posted
+none_kept keeps lists places terms links posted none no_places no_terms no_links no_words = record {
   places_are = no_places ∙ sym (ap (map places_of) none);
   terms_are = subst (λ t. ArePosted lists t) (sym no_terms) (subst (λ l. ArePosted l []) (sym none) tt);
   links_are = subst (λ e. EachPosted lists e) (sym no_links) (subst (λ l. EachPosted l []) (sym none) tt);
@@ -71,19 +71,19 @@ none_kept kept lists places terms links posted none no_places no_terms no_links 
 
 -- ---- the same lists
 
-pub all_kept : (kept : Words) (lists nlists : List (List StampedRow)) (places nplaces : List (List RowPlace)) (terms nterms : List (List TermAt)) (links nlinks : List Edges) (posted nposted : List (List TermAt)) → AreIndexed (all_with_words kept lists) places terms links posted
-    → nlists ≡ lists → nplaces ≡ places → nterms ≡ terms → nlinks ≡ links → nposted ≡ posted → AreIndexed (all_with_words kept nlists) nplaces nterms nlinks nposted
-all_kept kept lists nlists places nplaces terms nterms links nlinks posted nposted are lists_are places_are terms_are links_are words_are = record {
+pub all_kept : (keeps : Words) (lists nlists : List (List StampedRow)) (places nplaces : List (List RowPlace)) (terms nterms : List (List TermAt)) (links nlinks : List Edges) (posted nposted : List (List TermAt)) → AreIndexed (all_with_words keeps lists) places terms links posted
+    → nlists ≡ lists → nplaces ≡ places → nterms ≡ terms → nlinks ≡ links → nposted ≡ posted → AreIndexed (all_with_words keeps nlists) nplaces nterms nlinks nposted
+all_kept keeps lists nlists places nplaces terms nterms links nlinks posted nposted are lists_are places_are terms_are links_are words_are = record {
   places_are = places_are ∙ are.places_are ∙ sym (ap (map places_of) lists_are);
   terms_are = subst (λ l. ArePosted l nterms) (sym lists_are) (subst (λ t. ArePosted lists t) (sym terms_are) are.terms_are);
   links_are = subst (λ l. EachPosted l nlinks) (sym lists_are) (subst (λ e. EachPosted lists e) (sym links_are) are.links_are);
-  words_are = subst (λ l. HaveWords kept l nposted) (sym lists_are) (subst (λ w. HaveWords kept lists w) (sym words_are) are.words_are);
+  words_are = subst (λ l. HaveWords keeps l nposted) (sym lists_are) (subst (λ w. HaveWords keeps lists w) (sym words_are) are.words_are);
 }
 
 -- ---- one list more
 
-words_more : (kept : Words) (lists : List (List StampedRow)) (posted : List (List TermAt)) (rows : List StampedRow) (own : List TermAt) → HaveWords kept lists posted → HasWords kept rows own → HaveWords kept (lists ++ rows ∷ []) (posted ++ own ∷ [])
-words_more kept lists posted rows own are is = record {
+words_more : (keeps : Words) (lists : List (List StampedRow)) (posted : List (List TermAt)) (rows : List StampedRow) (own : List TermAt) → HaveWords keeps lists posted → HasWords keeps rows own → HaveWords keeps (lists ++ rows ∷ []) (posted ++ own ∷ [])
+words_more keeps lists posted rows own are is = record {
   many = omega (arith, are.many, length-append posted (own ∷ []), length-append lists (rows ∷ []));
   are = λ is_kept. posted_words_more lists posted rows own (are.are is_kept) (is is_kept);
 }
@@ -93,21 +93,21 @@ places_may_be_added lists places rows list are list_is more =
     let listed = ap (λ (p : List RowPlace). places ++ p ∷ []) list_is ∙ lists_more places lists rows are in
     subst ArePlaces (sym listed) (places_of_lists (lists ++ rows ∷ []) more)
 
-pub one_more : (kept : Words) (lists nlists : List (List StampedRow)) (places nplaces : List (List RowPlace)) (terms nterms : List (List TermAt)) (links nlinks : List Edges) (posted nposted : List (List TermAt)) (rows : List StampedRow) (list : List RowPlace) (ts : List TermAt) (e : Edges) (own : List TermAt) → AreIndexed (all_with_words kept lists) places terms links posted
-    → IsIndexed (with_words kept rows) list ts e own → nlists ≡ lists ++ rows ∷ [] → nplaces ≡ places ++ list ∷ [] → nterms ≡ terms ++ ts ∷ [] → nlinks ≡ links ++ e ∷ [] → nposted ≡ posted ++ own ∷ [] → AreIndexed (all_with_words kept nlists) nplaces nterms nlinks nposted
-one_more kept lists nlists places nplaces terms nterms links nlinks posted nposted rows list ts e own are is lists_are places_are terms_are links_are words_are =
-    all_kept kept (lists ++ rows ∷ []) nlists (places ++ list ∷ []) nplaces (terms ++ ts ∷ []) nterms (links ++ e ∷ []) nlinks (posted ++ own ∷ []) nposted
+pub one_more : (keeps : Words) (lists nlists : List (List StampedRow)) (places nplaces : List (List RowPlace)) (terms nterms : List (List TermAt)) (links nlinks : List Edges) (posted nposted : List (List TermAt)) (rows : List StampedRow) (list : List RowPlace) (ts : List TermAt) (e : Edges) (own : List TermAt) → AreIndexed (all_with_words keeps lists) places terms links posted
+    → IsIndexed (with_words keeps rows) list ts e own → nlists ≡ lists ++ rows ∷ [] → nplaces ≡ places ++ list ∷ [] → nterms ≡ terms ++ ts ∷ [] → nlinks ≡ links ++ e ∷ [] → nposted ≡ posted ++ own ∷ [] → AreIndexed (all_with_words keeps nlists) nplaces nterms nlinks nposted
+one_more keeps lists nlists places nplaces terms nterms links nlinks posted nposted rows list ts e own are is lists_are places_are terms_are links_are words_are =
+    all_kept keeps (lists ++ rows ∷ []) nlists (places ++ list ∷ []) nplaces (terms ++ ts ∷ []) nterms (links ++ e ∷ []) nlinks (posted ++ own ∷ []) nposted
     (record {
       places_are = ap (λ (p : List RowPlace). places ++ p ∷ []) is.places_are ∙ lists_more places lists rows are.places_are;
       terms_are = posted_terms_more lists terms rows ts are.terms_are is.terms_are;
       links_are = edges_more lists links rows e are.links_are is.links_are;
-      words_are = words_more kept lists posted rows own are.words_are is.words_are;
+      words_are = words_more keeps lists posted rows own are.words_are is.words_are;
     }) lists_are places_are terms_are links_are words_are
 
 -- ---- one list in the place of two
 
-words_merged : (kept : Words) (lists : List (List StampedRow)) (posted : List (List TermAt)) (i j : ℕ) (rows : List StampedRow) (own : List TermAt) → j < length lists → HaveWords kept lists posted → HasWords kept rows own → HaveWords kept (remove (slice_set lists i rows) j) (remove (slice_set posted i own) j)
-words_merged kept lists posted i j rows own within are is = record {
+words_merged : (keeps : Words) (lists : List (List StampedRow)) (posted : List (List TermAt)) (i j : ℕ) (rows : List StampedRow) (own : List TermAt) → j < length lists → HaveWords keeps lists posted → HasWords keeps rows own → HaveWords keeps (remove (slice_set lists i rows) j) (remove (slice_set posted i own) j)
+words_merged keeps lists posted i j rows own within are is = record {
   many =
       let p = length-set posted i own in
       let l = length-set lists i rows in
@@ -120,13 +120,13 @@ places_may_replace lists places i j rows list are list_is fewer =
     let listed = ap (λ (p : List RowPlace). remove (slice_set places i p) j) list_is ∙ lists_merged places lists i j rows are in
     subst ArePlaces (sym listed) (places_of_lists (remove (slice_set lists i rows) j) fewer)
 
-pub one_for_two : (kept : Words) (lists nlists : List (List StampedRow)) (places nplaces : List (List RowPlace)) (terms nterms : List (List TermAt)) (links nlinks : List Edges) (posted nposted : List (List TermAt)) (i j : ℕ) (rows : List StampedRow) (list : List RowPlace) (ts : List TermAt) (e : Edges) (own : List TermAt) → j < length lists
-    → AreIndexed (all_with_words kept lists) places terms links posted → IsIndexed (with_words kept rows) list ts e own → nlists ≡ remove (slice_set lists i rows) j → nplaces ≡ remove (slice_set places i list) j → nterms ≡ remove (slice_set terms i ts) j → nlinks ≡ remove (slice_set links i e) j → nposted ≡ remove (slice_set posted i own) j → AreIndexed (all_with_words kept nlists) nplaces nterms nlinks nposted
-one_for_two kept lists nlists places nplaces terms nterms links nlinks posted nposted i j rows list ts e own within are is lists_are places_are terms_are links_are words_are =
-    all_kept kept (remove (slice_set lists i rows) j) nlists (remove (slice_set places i list) j) nplaces (remove (slice_set terms i ts) j) nterms (remove (slice_set links i e) j) nlinks (remove (slice_set posted i own) j) nposted
+pub one_for_two : (keeps : Words) (lists nlists : List (List StampedRow)) (places nplaces : List (List RowPlace)) (terms nterms : List (List TermAt)) (links nlinks : List Edges) (posted nposted : List (List TermAt)) (i j : ℕ) (rows : List StampedRow) (list : List RowPlace) (ts : List TermAt) (e : Edges) (own : List TermAt) → j < length lists
+    → AreIndexed (all_with_words keeps lists) places terms links posted → IsIndexed (with_words keeps rows) list ts e own → nlists ≡ remove (slice_set lists i rows) j → nplaces ≡ remove (slice_set places i list) j → nterms ≡ remove (slice_set terms i ts) j → nlinks ≡ remove (slice_set links i e) j → nposted ≡ remove (slice_set posted i own) j → AreIndexed (all_with_words keeps nlists) nplaces nterms nlinks nposted
+one_for_two keeps lists nlists places nplaces terms nterms links nlinks posted nposted i j rows list ts e own within are is lists_are places_are terms_are links_are words_are =
+    all_kept keeps (remove (slice_set lists i rows) j) nlists (remove (slice_set places i list) j) nplaces (remove (slice_set terms i ts) j) nterms (remove (slice_set links i e) j) nlinks (remove (slice_set posted i own) j) nposted
     (record {
       places_are = ap (λ (p : List RowPlace). remove (slice_set places i p) j) is.places_are ∙ lists_merged places lists i j rows are.places_are;
       terms_are = posted_terms_merged lists terms i j rows ts are.terms_are is.terms_are;
       links_are = edges_merged lists links i j rows e are.links_are is.links_are;
-      words_are = words_merged kept lists posted i j rows own within are.words_are is.words_are;
+      words_are = words_merged keeps lists posted i j rows own within are.words_are is.words_are;
     }) lists_are places_are terms_are links_are words_are

@@ -25,12 +25,12 @@ use Rattle.segment_index.specs.Indexed.{SegmentRows, terms_of, words_of, links_o
 
 -- some rows, whose words are kept or left out
 abbrev pub with_words : Words → List StampedRow → SegmentRows
-with_words kept rows = record { rows = rows; words = kept }
+with_words keeps rows = record { rows = rows; words = keeps }
 
 -- ---- no rows
 
-pub none_built : (kept : Words) (rows : List StampedRow) (places : List RowPlace) (terms : List TermAt) (links : Edges) (posted : List TermAt) → rows ≡ [] → places ≡ [] → terms ≡ [] → links ≡ no_edges → posted ≡ [] → IsBuilt (with_words kept rows) places terms links posted 0
-none_built kept rows places terms links posted none no_places no_terms no_links no_words = record {
+pub none_built : (keeps : Words) (rows : List StampedRow) (places : List RowPlace) (terms : List TermAt) (links : Edges) (posted : List TermAt) → rows ≡ [] → places ≡ [] → terms ≡ [] → links ≡ no_edges → posted ≡ [] → IsBuilt (with_words keeps rows) places terms links posted 0
+none_built keeps rows places terms links posted none no_places no_terms no_links no_words = record {
   places_are = no_places ∙ sym (ap places_of none);
   terms_are = no_terms ∙ sym (ap terms_of none);
   links_are = no_links ∙ sym (ap links_of none);
@@ -45,9 +45,9 @@ placed_push rows s at place here is =
     let same : 0 + length (segment_of rows) ≡ at = omega (arith, here) in
     with_places_push 0 rows s ∙ ap (λ n. with_places 0 rows ++ (s, row_place s n) ∷ []) same ∙ sym (ap (λ (p : RowPlace). with_places 0 rows ++ (s, p) ∷ []) is)
 
-pub built_push : (kept : Words) (rows next : List StampedRow) (places more : List RowPlace) (terms terms' : List TermAt) (links links' : Edges) (posted posted' : List TermAt) (bytes bytes' number : ℕ) (row : StampedRow) (place : RowPlace) → IsBuilt (with_words kept rows) places terms links posted bytes → place ≡ row_place row bytes → number ≡ length rows
-    → next ≡ rows ++ row ∷ [] → more ≡ places ++ place ∷ [] → terms' ≡ terms ++ posted_term row.row number → links' ≡ joined_edges links (edges_of row.row number) → (kept ≡ words.Kept → posted' ≡ posted ++ posted_words row.row number) → bytes' ≡ bytes + place.bytes → IsBuilt (with_words kept next) more terms' links' posted' bytes'
-built_push kept rows next places more terms terms' links links' posted posted' bytes bytes' number row place is place_is number_is next_is more_is terms_is links_is words_is bytes_is =
+pub built_push : (keeps : Words) (rows next : List StampedRow) (places more : List RowPlace) (terms terms' : List TermAt) (links links' : Edges) (posted posted' : List TermAt) (bytes bytes' number : ℕ) (row : StampedRow) (place : RowPlace) → IsBuilt (with_words keeps rows) places terms links posted bytes → place ≡ row_place row bytes → number ≡ length rows
+    → next ≡ rows ++ row ∷ [] → more ≡ places ++ place ∷ [] → terms' ≡ terms ++ posted_term row.row number → links' ≡ joined_edges links (edges_of row.row number) → (keeps ≡ words.Kept → posted' ≡ posted ++ posted_words row.row number) → bytes' ≡ bytes + place.bytes → IsBuilt (with_words keeps next) more terms' links' posted' bytes'
+built_push keeps rows next places more terms terms' links links' posted posted' bytes bytes' number row place is place_is number_is next_is more_is terms_is links_is words_is bytes_is =
     let with : with_places 0 next ≡ with_places 0 rows ++ (row, place) ∷ [] = ap (with_places 0) next_is ∙ placed_push rows row bytes place is.bytes_are place_is in
     let len = ap (λ (p : RowPlace). p.bytes) place_is ∙ place_bytes row bytes in
     let whole = ap (λ (l : List StampedRow). length (segment_of l)) next_is ∙ ap length (push_plain rows row) ∙ length-append (segment_of rows) (record_of row) in
@@ -70,9 +70,9 @@ place_taken_away rows places more left place number is number_is more_is left_is
 pub row_taken_away : (rows more left : List StampedRow) (row : StampedRow) (number : ℕ) → number ≡ length rows → more ≡ rows ++ row ∷ [] → left ≡ take number more → left ≡ rows
 row_taken_away rows more left row number number_is more_is left_is = left_is ∙ (λ i. take (number_is i) (more_is i)) ∙ take-append_seam rows (row ∷ [])
 
-pub built_same : (kept : Words) (rows same : List StampedRow) (places same_places : List RowPlace) (terms same_terms : List TermAt) (links same_links : Edges) (posted same_posted : List TermAt) (bytes : ℕ) → IsBuilt (with_words kept rows) places terms links posted bytes
-    → same ≡ rows → same_places ≡ places → same_terms ≡ terms → same_links ≡ links → same_posted ≡ posted → IsBuilt (with_words kept same) same_places same_terms same_links same_posted bytes
-built_same kept rows same places same_places terms same_terms links same_links posted same_posted bytes is r p t l w = rw (r, p, t, l, w) is
+pub built_same : (keeps : Words) (rows same : List StampedRow) (places same_places : List RowPlace) (terms same_terms : List TermAt) (links same_links : Edges) (posted same_posted : List TermAt) (bytes : ℕ) → IsBuilt (with_words keeps rows) places terms links posted bytes
+    → same ≡ rows → same_places ≡ places → same_terms ≡ terms → same_links ≡ links → same_posted ≡ posted → IsBuilt (with_words keeps same) same_places same_terms same_links same_posted bytes
+built_same keeps rows same places same_places terms same_terms links same_links posted same_posted bytes is r p t l w = rw (r, p, t, l, w) is
 
 -- ---- the first rows
 

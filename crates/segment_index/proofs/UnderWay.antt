@@ -167,7 +167,7 @@ merged_before places terms links posted m numbers ap_ bp al bl is pa pb two_is l
 
 -- ---- the end of a merge
 
-module _ (kept : Words) (lists : List (List StampedRow)) (places : List (List RowPlace)) (terms : List (List TermAt)) (links : List Edges) (posted : List (List TermAt)) (are : AreIndexed (all_with_words kept lists) places terms links posted) (old m : PostingsMerge) (a b : List StampedRow)
+module _ (keeps : Words) (lists : List (List StampedRow)) (places : List (List RowPlace)) (terms : List (List TermAt)) (links : List Edges) (posted : List (List TermAt)) (are : AreIndexed (all_with_words keeps lists) places terms links posted) (old m : PostingsMerge) (a b : List StampedRow)
     (a_is : slice_get lists m.i ≡ Some a) (b_is : slice_get lists m.j ≡ Some b) (both : AreLists (a ∷ b ∷ [])) (few : length a + length b < 2 ^ 32) (merged : IsPostingsMerge places terms links posted m) where
   two_are : places_at places m ≡ record { first = places_of a; second = places_of b }
   two_are =
@@ -192,12 +192,12 @@ module _ (kept : Words) (lists : List (List StampedRow)) (places : List (List Ro
       } in
       merged_are_posted a b (edges_at links m.i) (edges_at links m.j) m.links both first second (subst (λ (l : TwoLists). IsMergeOf l (edges_at links m.i) (edges_at links m.j) m.links) two_are merged.links_are) none
 
-  words_end : kept ≡ words.Kept → terms_left (terms_at posted m.i) (terms_at posted m.j) m.words ≡ 0 → by_words.IsPosted (union a b) m.words.terms
+  words_end : keeps ≡ words.Kept → terms_left (terms_at posted m.i) (terms_at posted m.j) m.words ≡ 0 → by_words.IsPosted (union a b) m.words.terms
   words_end is_kept none =
       let first = worded_at lists posted m.i a (are.words_are.are is_kept) a_is in
       let second = worded_at lists posted m.j b (are.words_are.are is_kept) b_is in
       merged_words_are_posted a b (terms_at posted m.i) (terms_at posted m.j) m.words both first second (subst (λ (l : TwoLists). IsMergeOfTerms l (terms_at posted m.i) (terms_at posted m.j) m.words) two_are merged.words_are) none
 
   pub all_posted : (p : OutputPostings) → terms_left (terms_at terms m.i) (terms_at terms m.j) m.terms ≡ terms_left (terms_at terms m.i) (terms_at terms m.j) old.terms - most_steps
-      → edges_left (edges_at links m.i) (edges_at links m.j) m.links ≡ less_of_rows most_steps (edges_left (edges_at links m.i) (edges_at links m.j) old.links) → terms_left (terms_at posted m.i) (terms_at posted m.j) m.words ≡ 0 → p.terms ≡ m.terms.terms → p.links ≡ m.links.edges → p.words ≡ m.words.terms → HasPostings kept (union a b) p
+      → edges_left (edges_at links m.i) (edges_at links m.j) m.links ≡ less_of_rows most_steps (edges_left (edges_at links m.i) (edges_at links m.j) old.links) → terms_left (terms_at posted m.i) (terms_at posted m.j) m.words ≡ 0 → p.terms ≡ m.terms.terms → p.links ≡ m.links.edges → p.words ≡ m.words.terms → HasPostings keeps (union a b) p
   all_posted p t l w terms_are links_are words_are = record { terms_are = subst (IsPosted (union a b)) (sym terms_are) (terms_end t); links_are = subst (ArePostingsOf (union a b)) (sym links_are) (links_end l); words_are = λ is_kept. subst (by_words.IsPosted (union a b)) (sym words_are) (words_end is_kept w) }

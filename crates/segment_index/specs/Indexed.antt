@@ -41,13 +41,13 @@ links_of rows = posted_edges rows
 
 -- if words are kept, these are the postings of the rows by words, in any order
 abbrev pub HasWords : Words → List StampedRow → List TermAt → Type 0
-HasWords kept rows posted = kept ≡ words.Kept → by_words.IsPosted rows posted
+HasWords keeps rows posted = keeps ≡ words.Kept → by_words.IsPosted rows posted
 
 -- the same for each list of rows; if words are left out, there are as many lists of postings
-pub record HaveWords (kept : Words) (lists : List (List StampedRow))
+pub record HaveWords (keeps : Words) (lists : List (List StampedRow))
     (posted : List (List TermAt)) : Type 0 where
   pub many : length posted ≡ length lists
-  pub are : kept ≡ words.Kept → by_words.ArePosted lists posted
+  pub are : keeps ≡ words.Kept → by_words.ArePosted lists posted
 
 -- the lists of postings by words, one for each list of rows, or nothing if words are left out
 abbrev pub AreWordsOf : StoreRows → Option (List (List TermAt)) → Type 0

@@ -5,9 +5,8 @@ ghost use Rattle.history_model.specs.InOrder.{IsAscending};
 ghost use Rattle.history_model.specs.History.{stamped_cmp};
 ghost use Rattle.segment.specs.Records.{segment_of};
 ghost use Rattle.term_prefix.specs.Pushed.{posted_term};
-ghost use Rattle.term_words.specs.Posted.{posted_words};
 ghost use Rattle.links.specs.Edges.{edges_of, joined_edges};
-ghost use Rattle.segment_index.specs.declared.words.Words.TheVariants.{Kept};
+ghost use Rattle.segment_index.specs.Private.{words_if};
 
 use crate::sealed::SegmentIndex;
 use crate::words::Words;
@@ -50,8 +49,8 @@ fn post_words(
     row: &StampedRow,
     number: u32,
 ) -> Result<(), AllocError>
-    ensures ok { words ≡ Kept
-        → OnOk result (posted.new ≡ posted.old ++ posted_words row.now.row number) }
+    ensures ok { OnOk result
+        (posted.new ≡ posted.old ++ words_if words row.now.row number) }
     ensures err { OnErr result (posted.new ≡ posted.old) }
 {
     match words {
@@ -93,8 +92,8 @@ fn post(
 ) -> Result<(), AllocError>
     ensures ok { OnOk result ((terms.new ≡ terms.old ++ posted_term row.now.row number)
         × (links.new ≡ joined_edges links.old (edges_of row.now.row number))) }
-    ensures words { words ≡ Kept
-        → OnOk result (posted.new ≡ posted.old ++ posted_words row.now.row number) }
+    ensures words { OnOk result
+        (posted.new ≡ posted.old ++ words_if words row.now.row number) }
     ensures err { OnErr result ((terms.new ≡ terms.old) × (links.new ≡ links.old)
         × (posted.new ≡ posted.old)) }
 {

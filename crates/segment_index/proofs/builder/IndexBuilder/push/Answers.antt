@@ -1,7 +1,8 @@
-use Rattle.std.proofs.Common.{◌^◌, ◌<◌, ◌++◌, ◌∷◌, [], length, refl, sym, subst, arith}
+use Rattle.std.proofs.Common.{◌^◌, ◌<◌, ◌++◌, ◌∷◌, [], ◌∙◌, length, refl, ap, sym, subst, arith}
 use Rattle.segment.specs.Records.{segment_of}
 use Rattle.segment.proofs.Posting.{rows_at_most_bytes, record_ends}
 use Rattle.segment_index.specs.Indexed.{SegmentRows}
+use Rattle.segment_index.specs.Private.{words_if}
 use Rattle.segment_index.proofs.Built.{built_push, built_same, place_taken_away, row_taken_away}
 use Rattle.segment_index.proofs.builder.IndexBuilder.push.Goals as goal
 
@@ -30,7 +31,7 @@ invariant_of-self-in-Err c =
 pub invariant_of-self-in-Ok : goal.invariant_of-self-in-Ok
 invariant_of-self-in-Ok c =
     let inside = c.self.inside in
-    built_push inside.words inside.rows c.push-2.new.self inside.places c.push.new.self inside.terms c.post.new.terms inside.links c.post.new.links inside.posted_words c.post.new.posted inside.bytes _ c.len-len.result c.args.row.now c.new-at.result c.self.invariant c.new-at.ensures c.len-len.ensures c.in_default.ensures.ok c.in_ok-push.ensures.ok c.in-Ok.ensures.ok.0 c.in-Ok.ensures.ok.1 c.in-Ok.ensures.words refl
+    built_push inside.words inside.rows c.push-2.new.self inside.places c.push.new.self inside.terms c.post.new.terms inside.links c.post.new.links inside.posted_words c.post.new.posted inside.bytes _ c.len-len.result c.args.row.now c.new-at.result c.self.invariant c.new-at.ensures c.len-len.ensures c.in_default.ensures.ok c.in_ok-push.ensures.ok c.in-Ok.ensures.ok.0 c.in-Ok.ensures.ok.1 (λ is_kept. c.in-Ok.ensures.words ∙ ap (λ k. inside.posted_words ++ words_if k c.args.row.now.row c.len-len.result) is_kept) refl
 
 pub invariant_of-self-in-Err-post : goal.invariant_of-self-in-Err-post
 invariant_of-self-in-Err-post c =

@@ -13,7 +13,7 @@ use Rattle.segment_index.proofs.Outputs.{list_is, of_lists, of_rows, step_fits, 
 use Rattle.segment_index.proofs.index_merge.IndexMerge.take.Goals as goal
 
 abbrev made : Words → List StampedRow → List StampedRow → ℕ → OutputRows
-made kept a b k = record { a = a; b = b; taken = k; words = kept }
+made keeps a b k = record { a = a; b = b; taken = k; words = keeps }
 
 pub take-requires : goal.take-requires
 take-requires c =

@@ -71,14 +71,15 @@ advance-requires-clause-links c = links_count c.self.inside.rows c.self.inside.l
 pub advance-requires-clause-words : goal.advance-requires-clause-words
 advance-requires-clause-words c = c.self.invariant.0.words_are.many ∙ sym (places_count c.self.inside.rows c.self.inside.places c.self.invariant.0.places_are)
 
-pub returns-then-branch-clause-posted : goal.returns-then-branch-clause-posted
-returns-then-branch-clause-posted c a b a_is b_is =
+pub returns-then-left-eq0-clause-posted : goal.returns-then-left-eq0-clause-posted
+returns-then-left-eq0-clause-posted c a b a_is b_is =
+    let none : c.args.left ≡ 0 = c.if-left-eq0.true in
     let x = c.self.inside in
     let old = c.resume-merge.result in
     let m = c.advance.new.self in
     let went = c.advance.ensures in
     let number = c.resume-merge.ensures.numbers in
-    let steps : c.step_size-size.result.postings ≡ most_steps = c.step_size-size.ensures.postings NONE_LEFT in
+    let steps : c.step_size-size.result.postings ≡ most_steps = c.step_size-size.ensures.postings none in
     let both = c.requires.lists a b a_is b_is in
     let first : slice_get x.rows m.i ≡ Some a = subst (λ k. slice_get x.rows k ≡ Some a) (sym (went.numbers.0 ∙ number.0)) (subst (λ (r : StoreRows). slice_get r.lists c.args.i ≡ Some a) (sym c.self.view_is) a_is) in
     let second : slice_get x.rows m.j ≡ Some b = subst (λ k. slice_get x.rows k ≡ Some b) (sym (went.numbers.1 ∙ number.1)) (subst (λ (r : StoreRows). slice_get r.lists c.args.j ≡ Some b) (sym c.self.view_is) b_is) in
@@ -87,6 +88,6 @@ returns-then-branch-clause-posted c a b a_is b_is =
     let links = renumbered (λ k l. edges_left (edges_at x.links k) (edges_at x.links l) m.links ≡ less_of_rows most_steps (edges_left (edges_at x.links k) (edges_at x.links l) old.links)) old.i old.j m.i m.j went.numbers.0 went.numbers.1
     (subst (λ n. edges_left (edges_at x.links old.i) (edges_at x.links old.j) m.links ≡ less_of_rows n (edges_left (edges_at x.links old.i) (edges_at x.links old.j) old.links)) steps c.in_default.ensures.links) in
     let words = renumbered (λ k l. terms_left (terms_at x.posted_words k) (terms_at x.posted_words l) m.words ≡ terms_left (terms_at x.posted_words k) (terms_at x.posted_words l) old.words - c.step_size-size.result.words) old.i old.j m.i m.j went.numbers.0 went.numbers.1 c.in_default.ensures.words in
-    let enough = renumbered (λ k l. terms_left (terms_at x.posted_words k) (terms_at x.posted_words l) old.words ≤ c.step_size-size.result.words) old.i old.j m.i m.j went.numbers.0 went.numbers.1 (c.step_size-size.ensures.words NONE_LEFT) in
+    let enough = renumbered (λ k l. terms_left (terms_at x.posted_words k) (terms_at x.posted_words l) old.words ≤ c.step_size-size.result.words) old.i old.j m.i m.j went.numbers.0 went.numbers.1 (c.step_size-size.ensures.words none) in
     subst (λ (r : StoreRows). IfSome (Some c.seal.result) (HasPostings r.words (union a b))) c.self.view_is
     (all_posted x.words x.rows x.places x.terms x.links x.posted_words c.self.invariant.0 old m a b first second both.0 both.1 went.merge c.seal.result terms links (omega (arith, words, enough)) c.seal.ensures.terms c.seal.ensures.links c.seal.ensures.words)
