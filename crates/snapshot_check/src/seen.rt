@@ -1,0 +1,135 @@
+//! Which components and modules a package's Snapshot has.
+
+ghost use Rattle.std.specs.Prelude.{◌≡◌, ◌++◌, ◌∷◌, ◌==◌, [], List, OnOk, length};
+ghost use Rattle.std.specs.List.{list_any};
+ghost use Rattle.std.specs.List.Sorted.{IsPermutation, IsSorted};
+ghost use Rattle.std.specs.Ordering.{nat_cmp};
+ghost use Rattle.rf2_values.specs.Row.{RowValue};
+ghost use Rattle.rf2_values.specs.declared.row.Kind.{Kind};
+ghost use Rattle.snapshot_check.specs.Differences.{count_of, is_more};
+ghost use Rattle.snapshot_check.specs.Private.{ids_of, IsSeen, IsSortedSeen, AddsId};
+
+use crate::found::Counts;
+use rf2_rows::{Kind, Row, Sctid};
+use std::alloc::{AllocError, Global};
+
+/// The identifiers of a package's Snapshot by kind, and the modules that its rows name.
+#[derive(Drop)]
+pub(crate) struct Seen {
+    concepts: Vec<u128>,
+    descriptions: Vec<u128>,
+    relationships: Vec<u128>,
+    associations: Vec<u128>,
+    concretes: Vec<u128>,
+    members: Vec<u128>,
+    modules: Vec<Sctid>,
+}
+
+impl Seen {
+    /// No row was seen.
+    pub(crate) fn new(alloc: Global) -> Seen
+        ensures { IsSeen [] result }
+    {
+        Seen {
+            concepts: Vec::new(alloc),
+            descriptions: Vec::new(alloc),
+            relationships: Vec::new(alloc),
+            associations: Vec::new(alloc),
+            concretes: Vec::new(alloc),
+            members: Vec::new(alloc),
+            modules: Vec::new(alloc),
+        }
+    }
+
+    /// Adds an identifier.
+    fn add_id(&mut self, kind: Kind, id: u128) -> Result<(), AllocError>
+        ensures { OnOk result (AddsId kind id self.old self.new) }
+    {
+        match kind {
+            Kind::Concept => self.concepts.push(id)?,
+            Kind::Description => self.descriptions.push(id)?,
+            Kind::Relationship => self.relationships.push(id)?,
+            Kind::Association => self.associations.push(id)?,
+            Kind::Concrete => self.concretes.push(id)?,
+            Kind::Member => self.members.push(id)?,
+        }
+        Ok(())
+    }
+
+    /// Whether a row names this module.
+    fn names(&self, module_id: Sctid) -> bool
+        ensures { result ≡ list_any (λ n. n == module_id) self.now.modules.items }
+    {
+        self.modules.contains(&module_id)
+    }
+
+    /// Adds a row.
+    pub(crate) fn add(&mut self, row: &Row) -> Result<(), AllocError>
+        ensures { OnOk result ((rows : List RowValue) → IsSeen rows self.old
+            → IsSeen (rows ++ row.now ∷ []) self.new) }
+    {
+        self.add_id(row.kind(), row.id)?;
+        if !self.names(row.module_id) {
+            self.modules.push(row.module_id)?;
+        }
+        Ok(())
+    }
+
+    /// Puts the identifiers in order, so that they are found fast.
+    pub(crate) fn sort(&mut self)
+        ensures { (rows : List RowValue) → IsSeen rows self.old
+            → IsSortedSeen rows self.new }
+    {
+        self.concepts.sort_unstable();
+        self.descriptions.sort_unstable();
+        self.relationships.sort_unstable();
+        self.associations.sort_unstable();
+        self.concretes.sort_unstable();
+        self.members.sort_unstable();
+    }
+
+    /// The identifiers of a kind.
+    fn ids(&self, kind: Kind) -> &[u128]
+        ensures { result.now ≡ ids_of self.now kind }
+    {
+        match kind {
+            Kind::Concept => &self.concepts,
+            Kind::Description => &self.descriptions,
+            Kind::Relationship => &self.relationships,
+            Kind::Association => &self.associations,
+            Kind::Concrete => &self.concretes,
+            Kind::Member => &self.members,
+        }
+    }
+
+    /// Whether a component was seen, once the identifiers are in order.
+    fn has(&self, kind: Kind, id: u128) -> bool
+        ensures { IsSorted nat_cmp (ids_of self.now kind)
+            → result ≡ list_any (λ other. other == id) (ids_of self.now kind) }
+    {
+        self.ids(kind).binary_search(&id).is_ok()
+    }
+
+    /// Whether a row that is shown is of a module that the Snapshot names, and the Snapshot has no
+    /// row of its component.
+    pub(crate) fn is_more(&self, row: &Row) -> bool
+        ensures { (rows : List RowValue) → IsSortedSeen rows self.now
+            → result ≡ is_more rows row.now }
+    {
+        self.names(row.module_id) && !self.has(row.kind(), row.id)
+    }
+
+    /// How many rows of each kind were seen.
+    pub(crate) fn counts(&self) -> Counts
+        ensures { (kind : Kind) → count_of result kind ≡ length (ids_of self.now kind) }
+    {
+        Counts {
+            concepts: self.concepts.len() as u64,
+            descriptions: self.descriptions.len() as u64,
+            relationships: self.relationships.len() as u64,
+            associations: self.associations.len() as u64,
+            concretes: self.concretes.len() as u64,
+            members: self.members.len() as u64,
+        }
+    }
+}
