@@ -1,17 +1,20 @@
 -- Identifiers of a kind, in order, and whether one is among them.
-use Rattle.std.proofs.Common.{◌≡◌, ℕ, zero, suc, ◌+◌, ◌<◌, ◌≤◌, Bool, true, false, cond, Result, Ok, Err, List, [], ◌∷◌, ◌++◌, length, map, get_or, refl, sym, ap, subst, inl, inr, ◌∙◌, arith}
-use Rattle.std.specs.Prelude.{◌==◌, ◌||◌, ◌&&◌, is_ok}
+use Rattle.std.proofs.Common.{◌≡◌, ℕ, zero, suc, ◌+◌, ◌<◌, ◌≤◌, Bool, true, false, cond, Result, Ok, Err, List, [], ◌∷◌, ◌++◌, length, map, get_or, refl, sym, ap, subst, inl, inr, ◌∙◌, arith, append-nil}
+use Rattle.std.specs.Prelude.{◌==◌, ◌||◌, ◌&&◌, not, is_ok, vec_items, MatchResult}
 use Rattle.std.specs.List.{filter, list_any}
 use Rattle.std.specs.List.Sorted.{IsPermutation, IsSorted, IsBinarySearchResult}
 use Rattle.std.specs.Ordering.{nat_cmp}
-use Rattle.std.proofs.lemmas.Bool.{eqb-true, eq-eqb}
+use Rattle.std.proofs.lemmas.Bool.{eqb-true, eq-eqb, cases_lt}
 use Rattle.std.proofs.lemmas.List.Elements.{filter-append}
 use Rattle.std.proofs.lemmas.List.Sorted.{searched, IsNonDecreasingBy-from_sort, list_any-IsPermutation, length_permutation}
 use Rattle.rf2_values.specs.declared.row.Kind.{Kind}
 use Rattle.rf2_values.specs.Row.{RowValue, kind_of}
 use Rattle.rf2_values.specs.Key.{kind_place}
 use Rattle.history_model.specs.Queries.{is_kind, is_version_of}
-use Rattle.snapshot_check.specs.Private.{ids_in, id_if_same, AreModules}
+use Rattle.history_model.proofs.Keys.{same_kind}
+use Rattle.snapshot_check.specs.declared.seen.Seen.{Seen}
+use Rattle.snapshot_check.specs.Differences.{is_more, is_of_modules}
+use Rattle.snapshot_check.specs.Private.{ids_of, ids_in, id_if_same, AreModules, AddsModule, AddsId, IsSeen, IsSortedSeen}
 
 -- ---- whether a number is among others
 
@@ -37,7 +40,7 @@ pub found_or_not : (xs : List ℕ) (x : ℕ) (r : Result ℕ ℕ) → IsBinarySe
 found_or_not xs x r search sorted = by r (searched xs x r search (λ i j below within. IsNonDecreasingBy-from_sort (λ y. y) xs sorted i j 0 below within)) where
   by : (r : Result ℕ ℕ) → MatchResult r (λ i. (i < length xs) × (get_or xs i 0 ≡ x)) (λ i. (i ≤ length xs) × ((k : ℕ) → k < i → get_or xs k 0 < x) × ((k : ℕ) → i ≤ k → k < length xs → x < get_or xs k 0)) → is_ok r ≡ list_any (λ y. y == x) xs
   by (Ok i) w = sym (one_there x xs i w.0 w.1)
-  by (Err i) w = sym (none_there x xs (λ k within same. elim (split k i) [
+  by (Err i) w = sym (none_there x xs (λ k within same. elim (cases_lt k i) [
     | inl below ↦ (let less = w.1 k below in absurd (omega (arith, same)))
     | inr above ↦ (let more = w.2 k above within in absurd (omega (arith, same)))
   ]))
@@ -75,21 +78,58 @@ any_more : {X : Type 0} (p : X → Bool) (xs : List X) (x : X) → list_any p (x
 any_more p [] x = elim (p x) as (λ b. (b || false) ≡ (false || b)) [ true ↦ refl | false ↦ refl ]
 any_more p (y ∷ ys) x = elim (p y) as (λ b. (b || list_any p (ys ++ x ∷ [])) ≡ ((b || list_any p ys) || p x)) [ true ↦ refl | false ↦ any_more p ys x ]
 
-module _ (rows : List RowValue) (row : RowValue) (modules : List ℕ) (are : AreModules rows modules) where
-  pub module_added : AreModules (rows ++ row ∷ []) (modules ++ row.module_id ∷ [])
-  module_added n =
-      any_more (λ other. other == n) modules row.module_id
-      ∙ ap (λ b. b || row.module_id == n) (are n)
-      ∙ sym (any_more (λ r. r.module_id == n) rows row)
+pub module_added : (modules : List ℕ) (module_id : ℕ) → AddsModule module_id modules (modules ++ module_id ∷ [])
+module_added modules module_id n = any_more (λ other. other == n) modules module_id
 
-  pub module_there : list_any (λ other. other == row.module_id) modules ≡ true → AreModules (rows ++ row ∷ []) modules
-  module_there there n =
-      are n
-      ∙ (elim (row.module_id == n) as (λ b. row.module_id == n ≡ b → list_any (λ r. r.module_id == n) rows ≡ (list_any (λ r. r.module_id == n) rows || b)) [
-        | true ↦ λ e.
-            let same : row.module_id ≡ n = eqb-true row.module_id n e in
-            let named : list_any (λ r. r.module_id == n) rows ≡ true = sym (are n) ∙ subst (λ m. list_any (λ other. other == m) modules ≡ true) same there in
-            rw named refl
-        | false ↦ λ e. elim (list_any (λ r. r.module_id == n) rows) as (λ t. t ≡ (t || false)) [ true ↦ refl | false ↦ refl ]
-      ] refl)
-      ∙ sym (any_more (λ r. r.module_id == n) rows row)
+or_false : (b : Bool) → b ≡ (b || false)
+or_false true = refl
+or_false false = refl
+
+pub module_there : (modules : List ℕ) (module_id : ℕ) → list_any (λ other. other == module_id) modules ≡ true → AddsModule module_id modules modules
+module_there modules module_id there n =
+    elim (module_id == n) as (λ b. module_id == n ≡ b → list_any (λ other. other == n) modules ≡ (list_any (λ other. other == n) modules || b)) [
+      | true ↦ λ e. (let named : list_any (λ other. other == n) modules ≡ true = subst (λ m. list_any (λ other. other == m) modules ≡ true) (eqb-true module_id n e) there in rw named refl)
+      | false ↦ λ e. or_false (list_any (λ other. other == n) modules)
+    ] refl
+
+pub modules_more : (rows : List RowValue) (row : RowValue) (old new : List ℕ) → AreModules rows old → AddsModule row.module_id old new → AreModules (rows ++ row ∷ []) new
+modules_more rows row old new are adds n =
+    adds n
+    ∙ ap (λ b. b || row.module_id == n) (are n)
+    ∙ sym (any_more (λ r. r.module_id == n) rows row)
+
+-- ---- one identifier more
+
+pub adds_to : (kind : Kind) (id : ℕ) (old new : Seen) → ids_of new kind ≡ ids_of old kind ++ id ∷ [] → ((other : Kind) → (kind_place kind == kind_place other) ≡ false → ids_of new other ≡ ids_of old other) → new.modules ≡ old.modules → AddsId kind id old new
+adds_to kind id old new one others modules = record {
+  ids = λ other. elim (kind_place kind == kind_place other) as (λ b. (kind_place kind == kind_place other) ≡ b → ids_of new other ≡ ids_of old other ++ cond b (id ∷ []) []) [
+    | true ↦ λ e. subst (λ k. ids_of new k ≡ ids_of old k ++ id ∷ []) (same_kind kind other (eqb-true (kind_place kind) (kind_place other) e)) one
+    | false ↦ λ e. others other e ∙ sym (append-nil (ids_of old other))
+  ] refl;
+  modules = modules;
+}
+
+-- a row was seen
+pub seen_more : (rows : List RowValue) (row : RowValue) (old mid new : Seen) → IsSeen rows old → AddsId (kind_of row) row.id old mid → AddsModule row.module_id mid.modules.items new.modules.items → ((kind : Kind) → ids_of new kind ≡ ids_of mid kind) → IsSeen (rows ++ row ∷ []) new
+seen_more rows row old mid new seen adds module_adds same = record {
+  ids = λ kind. same kind ∙ adds.ids kind ∙ ap (λ xs. xs ++ id_if_same (kind_of row) kind row.id) (seen.ids kind) ∙ ids_more (kind_of row) kind rows row refl;
+  modules = modules_more rows row mid.modules.items new.modules.items (subst (λ m. AreModules rows (vec_items m)) (sym adds.modules) seen.modules) module_adds;
+}
+
+-- the identifiers were put in order
+pub sorted_seen : (rows : List RowValue) (old new : Seen) → IsSeen rows old → ((kind : Kind) → IsPermutation (ids_of old kind) (ids_of new kind)) → ((kind : Kind) → IsSorted nat_cmp (ids_of new kind)) → new.modules ≡ old.modules → IsSortedSeen rows new
+sorted_seen rows old new seen moved sorted same = record {
+  ids = λ kind. subst (λ xs. IsPermutation xs (ids_of new kind)) (seen.ids kind) (moved kind);
+  sorted = sorted;
+  modules = subst (λ m. AreModules rows (vec_items m)) (sym same) seen.modules;
+}
+
+-- whether a row is more
+pub more_by_ids : (rows : List RowValue) (row : RowValue) (seen : Seen) → IsSortedSeen rows seen → (list_any (λ n. n == row.module_id) seen.modules.items && not (list_any (λ other. other == row.id) (ids_of seen (kind_of row)))) ≡ is_more rows row
+more_by_ids rows row seen sorted =
+    ap (λ b. b && not (list_any (λ other. other == row.id) (ids_of seen (kind_of row)))) (sorted.modules row.module_id)
+    ∙ ap (λ b. is_of_modules rows row && not b) (list_any-IsPermutation (λ other. other == row.id) (ids_in rows (kind_of row)) (ids_of seen (kind_of row)) (sorted.ids (kind_of row)) ∙ among (kind_of row) row.id rows)
+
+-- how many identifiers there are
+pub counted : (rows : List RowValue) (seen : Seen) → IsSortedSeen rows seen → (kind : Kind) → length (ids_of seen kind) ≡ length (filter (is_kind kind) rows)
+counted rows seen sorted kind = length_permutation (ids_in rows kind) (ids_of seen kind) (sorted.ids kind) ∙ many_ids kind rows

@@ -2,6 +2,8 @@
 use Rattle.std.proofs.Common.{◌≡◌, ℕ, List, [], ◌∷◌, ◌++◌, refl, sym, ap, subst, inl, inr, ◌∙◌}
 use Rattle.std.specs.Prelude.{◌⊎◌, true, false}
 use Rattle.std.specs.List.{AllZip}
+use Rattle.rf2_values.specs.declared.row.Kind.{Kind}
+use Rattle.rf2_values.specs.declared.row.Kind.TheVariants as kinds
 use Rattle.rf2_values.specs.Row.{RowValue}
 use Rattle.fault_counts.specs.declared.fault.ReadFault.{ReadFault}
 use Rattle.snapshot_check.specs.declared.comparing.Compared.{Compared}
@@ -13,7 +15,7 @@ use Rattle.snapshot_check.specs.declared.found.Differences.{Differences}
 use Rattle.snapshot_check.specs.declared.fault.PackageFault.{PackageFault}
 use Rattle.snapshot_check.specs.declared.fault.CompareFault.{CompareFault}
 use Rattle.snapshot_check.specs.declared.fault.CompareFault.TheVariants as comparefault
-use Rattle.snapshot_check.specs.Differences.{ShownRows, AreDifferences, AreTold, TellsMissing, IsShown, TellsDifferent, HasNoOther, IsDifferent, Agrees, TellsMore, IsExpected, all_shown, is_more}
+use Rattle.snapshot_check.specs.Differences.{ShownRows, AreDifferences, AreTold, TellsMissing, IsShown, TellsDifferent, HasNoOther, IsDifferent, Agrees, TellsMore, IsExpected, all_shown, shown_of_kind, is_more}
 use Rattle.snapshot_check.specs.Reading.{IsFailure}
 use Rattle.snapshot_check.specs.Private.{IsSeen, IsTaken, IsCompared, IsNothingTold, IsVerdictOn, Notes, Adds, AddsMore, AddsThose, IsItself}
 use Rattle.snapshot_check.proofs.Picking.{none_told, told_then, told_weaker, adds_one, adds_other, adds_weaker, adds_for}
@@ -80,6 +82,15 @@ module _ (reads more : RowValue → RowValue → Type 0) (weaker : (read wanted 
   pub adds_more_so : (rows wanted : List RowValue) (limit : ℕ) (old new : Told RowValue) → AddsMore reads rows wanted limit old new → AddsMore more rows wanted limit old new
   adds_more_so rows wanted limit old new a = adds_weaker (TellsMore reads rows) (TellsMore more rows) (IsExpected reads rows) (IsExpected more rows) (more_told rows) (expected_so rows) wanted limit old new a
 
+  -- the same, of the rows that were shown before
+  pub adds_at : (rows : List RowValue) (kind : Kind) (now was : ShownRows) (limit : ℕ) (old new : Told RowValue) → now ≡ was → AddsMore reads rows (shown_of_kind now kind) limit old new → AddsMore more rows (shown_of_kind was kind) limit old new
+  adds_at rows kind now was limit old new same a = adds_more_so rows (shown_of_kind was kind) limit old new (subst (λ s. AddsMore reads rows (shown_of_kind s kind) limit old new) same a)
+
+  pub told_at : (rows : List RowValue) (now was : ShownRows) (limit : ℕ) (told : Told RowValue) → now ≡ was → AreTold (TellsMore reads rows) (IsExpected reads rows) (all_shown now) limit told → AreTold (TellsMore more rows) (IsExpected more rows) (all_shown was) limit told
+  told_at rows now was limit told same t =
+      told_weaker (TellsMore reads rows) (TellsMore more rows) (IsExpected reads rows) (IsExpected more rows) (more_told rows) (expected_so rows) (all_shown was) limit told
+      (subst (λ s. AreTold (TellsMore reads rows) (IsExpected reads rows) (all_shown s) limit told) same t)
+
   pub differences_so : (rows : List RowValue) (shown : ShownRows) (limit : ℕ) (found : Differences) → AreDifferences reads rows shown limit found → AreDifferences more rows shown limit found
   differences_so rows shown limit found d = record {
     counted = d.counted;
@@ -102,3 +113,28 @@ pub failed_after : (faulty : PackageFault → Type 0) (stays stays_so : Type 0) 
 failed_after faulty stays stays_so fails fails_so comparefault.OutOfMemory on fail w = on w
 failed_after faulty stays stays_so fails fails_so (comparefault.Package f) on fail w = absurd w.0
 failed_after faulty stays stays_so fails fails_so (comparefault.Shown f) on fail w = fail f w
+
+-- those that are more of each kind in turn are those that are more of all
+pub all_kinds : (reads : RowValue → RowValue → Type 0) (rows : List RowValue) (shown : ShownRows) (limit : ℕ) (t0 t1 t2 t3 t4 t5 t6 : Told RowValue) → IsNothingTold t0
+    → AddsMore reads rows (shown_of_kind shown kinds.Concept) limit t0 t1
+    → AddsMore reads rows (shown_of_kind shown kinds.Description) limit t1 t2
+    → AddsMore reads rows (shown_of_kind shown kinds.Relationship) limit t2 t3
+    → AddsMore reads rows (shown_of_kind shown kinds.Association) limit t3 t4
+    → AddsMore reads rows (shown_of_kind shown kinds.Concrete) limit t4 t5
+    → AddsMore reads rows (shown_of_kind shown kinds.Member) limit t5 t6
+    → AreTold (TellsMore reads rows) (IsExpected reads rows) (all_shown shown) limit t6
+all_kinds reads rows shown limit t0 t1 t2 t3 t4 t5 t6 none a1 a2 a3 a4 a5 a6 =
+    let k = shown_of_kind shown in
+    let c = k kinds.Concept in
+    let d = k kinds.Description in
+    let r = k kinds.Relationship in
+    let a = k kinds.Association in
+    let v = k kinds.Concrete in
+    let on = told_then (TellsMore reads rows) (IsExpected reads rows) limit in
+    let b0 = none_told (TellsMore reads rows) (IsExpected reads rows) limit t0 none in
+    let b1 = on [] c t0 t1 b0 a1 in
+    let b2 = on c d t1 t2 b1 a2 in
+    let b3 = on (c ++ d) r t2 t3 b2 a3 in
+    let b4 = on (c ++ d ++ r) a t3 t4 b3 a4 in
+    let b5 = on (c ++ d ++ r ++ a) v t4 t5 b4 a5 in
+    on (c ++ d ++ r ++ a ++ v) (k kinds.Member) t5 t6 b5 a6

@@ -1,5 +1,5 @@
 -- What is known while rows are compared. No public clause cites these definitions.
-use Rattle.std.specs.Prelude.{◌≡◌, ◌==◌, ℕ, true, false, cond, List, [], ◌∷◌, ◌++◌, map}
+use Rattle.std.specs.Prelude.{◌≡◌, ◌==◌, ◌||◌, ℕ, true, false, cond, List, [], ◌∷◌, ◌++◌, map}
 use Rattle.std.specs.List.{filter, list_any}
 use Rattle.std.specs.List.Sorted.{IsPermutation, IsSorted}
 use Rattle.std.specs.Ordering.{nat_cmp}
@@ -47,6 +47,11 @@ id_if_same kind other id = cond (kind_place kind == kind_place other) (id ∷ []
 pub record AddsId (kind : Kind) (id : ℕ) (old new : Seen) : Type 0 where
   pub ids : (other : Kind) → ids_of new other ≡ ids_of old other ++ id_if_same kind other id
   pub modules : new.modules ≡ old.modules
+
+-- a module was added to those that were named
+abbrev pub AddsModule : ℕ → List ℕ → List ℕ → Type 0
+AddsModule module_id old new = (n : ℕ)
+    → list_any (λ other. other == n) new ≡ (list_any (λ other. other == n) old || module_id == n)
 
 -- these rows were seen, and the identifiers are in order
 pub record IsSortedSeen (packaged : List RowValue) (seen : Seen) : Type 0 where

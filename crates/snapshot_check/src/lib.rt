@@ -1,5 +1,4 @@
 //! Compares the rows of a package's Snapshot with the rows that a store shows at the package's day.
-#![tactic(auto)]
 
 mod comparing;
 mod fault;

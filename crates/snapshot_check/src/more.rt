@@ -2,6 +2,8 @@
 
 ghost use Rattle.std.specs.Prelude.{◌≡◌, ◌∷◌, [], None, List, IfOk, IfErr, OnOk};
 ghost use Rattle.rf2_values.specs.Row.{RowValue};
+ghost use Rattle.history_model.specs.InOrder.{IsAscending};
+ghost use Rattle.history_model.specs.History.{row_cmp};
 ghost use Rattle.history_model.specs.Queries.{page};
 ghost use Rattle.history_model.specs.Laws.{last_id};
 ghost use Rattle.snapshot_check.specs.Differences.{AreTold, TellsMore, IsExpected};
@@ -61,6 +63,7 @@ fn add_page<S: Shown>(
     limit: usize,
     more: &mut Told<Row>,
 ) -> Result<Option<u128>, CompareFault>
+    ensures ordered { IsAscending row_cmp (S.at_date shown.old).rows }
     ensures last { let at = S.at_date shown.old in IfOk result
         (λ last. last ≡ last_id None (page kind at.date after PAGE at.rows)) }
     ensures adds { let at = S.at_date shown.old in OnOk result ((rows : List RowValue)

@@ -7,7 +7,7 @@ ghost use Rattle.std.specs.Ordering.{nat_cmp};
 ghost use Rattle.rf2_values.specs.Row.{RowValue};
 ghost use Rattle.rf2_values.specs.declared.row.Kind.{Kind};
 ghost use Rattle.snapshot_check.specs.Differences.{count_of, is_more};
-ghost use Rattle.snapshot_check.specs.Private.{ids_of, IsSeen, IsSortedSeen, AddsId};
+ghost use Rattle.snapshot_check.specs.Private.{ids_of, IsSeen, IsSortedSeen, AddsId, AddsModule};
 
 use crate::found::Counts;
 use rf2_rows::{Kind, Row, Sctid};
@@ -30,14 +30,21 @@ impl Seen {
     pub(crate) fn new(alloc: Global) -> Seen
         ensures { IsSeen [] result }
     {
+        let concepts = Vec::new(alloc);
+        let descriptions = Vec::new(alloc);
+        let relationships = Vec::new(alloc);
+        let associations = Vec::new(alloc);
+        let concretes = Vec::new(alloc);
+        let members = Vec::new(alloc);
+        let modules = Vec::new(alloc);
         Seen {
-            concepts: Vec::new(alloc),
-            descriptions: Vec::new(alloc),
-            relationships: Vec::new(alloc),
-            associations: Vec::new(alloc),
-            concretes: Vec::new(alloc),
-            members: Vec::new(alloc),
-            modules: Vec::new(alloc),
+            concepts,
+            descriptions,
+            relationships,
+            associations,
+            concretes,
+            members,
+            modules,
         }
     }
 
@@ -46,14 +53,13 @@ impl Seen {
         ensures { OnOk result (AddsId kind id self.old self.new) }
     {
         match kind {
-            Kind::Concept => self.concepts.push(id)?,
-            Kind::Description => self.descriptions.push(id)?,
-            Kind::Relationship => self.relationships.push(id)?,
-            Kind::Association => self.associations.push(id)?,
-            Kind::Concrete => self.concretes.push(id)?,
-            Kind::Member => self.members.push(id)?,
+            Kind::Concept => Ok(self.concepts.push(id)?),
+            Kind::Description => Ok(self.descriptions.push(id)?),
+            Kind::Relationship => Ok(self.relationships.push(id)?),
+            Kind::Association => Ok(self.associations.push(id)?),
+            Kind::Concrete => Ok(self.concretes.push(id)?),
+            Kind::Member => Ok(self.members.push(id)?),
         }
-        Ok(())
     }
 
     /// Whether a row names this module.
@@ -63,15 +69,26 @@ impl Seen {
         self.modules.contains(&module_id)
     }
 
+    /// Adds a module.
+    fn add_module(&mut self, module_id: Sctid) -> Result<(), AllocError>
+        ensures modules { OnOk result
+            (AddsModule module_id self.old.modules.items self.new.modules.items) }
+        ensures kept { self.new ≡ record self.old { modules = self.new.modules } }
+    {
+        if self.names(module_id) {
+            return Ok(());
+        }
+        self.modules.push(module_id)?;
+        Ok(())
+    }
+
     /// Adds a row.
     pub(crate) fn add(&mut self, row: &Row) -> Result<(), AllocError>
         ensures { OnOk result ((rows : List RowValue) → IsSeen rows self.old
             → IsSeen (rows ++ row.now ∷ []) self.new) }
     {
         self.add_id(row.kind(), row.id)?;
-        if !self.names(row.module_id) {
-            self.modules.push(row.module_id)?;
-        }
+        self.add_module(row.module_id)?;
         Ok(())
     }
 

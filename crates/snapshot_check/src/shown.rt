@@ -51,6 +51,8 @@ pub trait Shown {
     ) -> Result<Vec<Row>, ReadFault>
         ensures found { let at = at_date self.old in IfOk result
             (λ read. AllZip (reads self.old) read.items (page kind at.date after limit at.rows)) }
+        // The store's rows are in the order of their keys.
+        ensures ordered { IsAscending row_cmp (at_date self.old).rows }
         ensures stays { OnOk result (stays self.old self.new) }
         ensures fails { IfErr result (λ e. fails e self.old self.new) };
 
@@ -60,9 +62,6 @@ pub trait Shown {
 
     ghost keyed: { (a : Self) (read wanted : RowValue) → reads a read wanted
         → key_of read ≡ key_of wanted };
-
-    /// The store's rows are in the order of their keys.
-    ghost ordered: { (a : Self) → IsAscending row_cmp (at_date a).rows };
 
     /// Calls change neither the rows nor what may be returned for them.
     ghost same: { (a b : Self) → stays a b → at_date b ≡ at_date a };
