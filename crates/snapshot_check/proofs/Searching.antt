@@ -8,12 +8,14 @@ use Rattle.std.proofs.lemmas.Bool.{eqb-true, eq-eqb, cases_lt}
 use Rattle.std.proofs.lemmas.List.Elements.{filter-append}
 use Rattle.std.proofs.lemmas.List.Sorted.{searched, IsNonDecreasingBy-from_sort, list_any-IsPermutation, length_permutation}
 use Rattle.rf2_values.specs.declared.row.Kind.{Kind}
+use Rattle.rf2_values.specs.declared.row.Kind.TheVariants as kinds
 use Rattle.rf2_values.specs.Row.{RowValue, kind_of}
 use Rattle.rf2_values.specs.Key.{kind_place}
 use Rattle.history_model.specs.Queries.{is_kind, is_version_of}
 use Rattle.history_model.proofs.Keys.{same_kind}
 use Rattle.snapshot_check.specs.declared.seen.Seen.{Seen}
-use Rattle.snapshot_check.specs.Differences.{is_more, is_of_modules}
+use Rattle.snapshot_check.specs.declared.found.Counts.{Counts}
+use Rattle.snapshot_check.specs.Differences.{is_more, is_of_modules, count_of}
 use Rattle.snapshot_check.specs.Private.{ids_of, ids_in, id_if_same, AreModules, AddsModule, AddsId, IsSeen, IsSortedSeen}
 
 -- ---- whether a number is among others
@@ -133,3 +135,116 @@ more_by_ids rows row seen sorted =
 -- how many identifiers there are
 pub counted : (rows : List RowValue) (seen : Seen) → IsSortedSeen rows seen → (kind : Kind) → length (ids_of seen kind) ≡ length (filter (is_kind kind) rows)
 counted rows seen sorted kind = length_permutation (ids_in rows kind) (ids_of seen kind) (sorted.ids kind) ∙ many_ids kind rows
+
+-- ---- kind by kind
+
+pub adds_concepts : (id : ℕ) (old new : Seen) → new ≡ record old { concepts = new.concepts } → new.concepts.items ≡ old.concepts.items ++ id ∷ [] → AddsId kinds.Concept id old new
+adds_concepts id old new same items = adds_to kinds.Concept id old new items others (ap (λ (s : Seen). s.modules) same) where
+  others : (other : Kind) → (kind_place kinds.Concept == kind_place other) ≡ false → ids_of new other ≡ ids_of old other
+  others kinds.Concept e = absurd cc
+  others kinds.Description e = ap (λ (s : Seen). s.descriptions.items) same
+  others kinds.Relationship e = ap (λ (s : Seen). s.relationships.items) same
+  others kinds.Association e = ap (λ (s : Seen). s.associations.items) same
+  others kinds.Concrete e = ap (λ (s : Seen). s.concretes.items) same
+  others kinds.Member e = ap (λ (s : Seen). s.members.items) same
+
+pub adds_descriptions : (id : ℕ) (old new : Seen) → new ≡ record old { descriptions = new.descriptions } → new.descriptions.items ≡ old.descriptions.items ++ id ∷ [] → AddsId kinds.Description id old new
+adds_descriptions id old new same items = adds_to kinds.Description id old new items others (ap (λ (s : Seen). s.modules) same) where
+  others : (other : Kind) → (kind_place kinds.Description == kind_place other) ≡ false → ids_of new other ≡ ids_of old other
+  others kinds.Concept e = ap (λ (s : Seen). s.concepts.items) same
+  others kinds.Description e = absurd cc
+  others kinds.Relationship e = ap (λ (s : Seen). s.relationships.items) same
+  others kinds.Association e = ap (λ (s : Seen). s.associations.items) same
+  others kinds.Concrete e = ap (λ (s : Seen). s.concretes.items) same
+  others kinds.Member e = ap (λ (s : Seen). s.members.items) same
+
+pub adds_relationships : (id : ℕ) (old new : Seen) → new ≡ record old { relationships = new.relationships } → new.relationships.items ≡ old.relationships.items ++ id ∷ [] → AddsId kinds.Relationship id old new
+adds_relationships id old new same items = adds_to kinds.Relationship id old new items others (ap (λ (s : Seen). s.modules) same) where
+  others : (other : Kind) → (kind_place kinds.Relationship == kind_place other) ≡ false → ids_of new other ≡ ids_of old other
+  others kinds.Concept e = ap (λ (s : Seen). s.concepts.items) same
+  others kinds.Description e = ap (λ (s : Seen). s.descriptions.items) same
+  others kinds.Relationship e = absurd cc
+  others kinds.Association e = ap (λ (s : Seen). s.associations.items) same
+  others kinds.Concrete e = ap (λ (s : Seen). s.concretes.items) same
+  others kinds.Member e = ap (λ (s : Seen). s.members.items) same
+
+pub adds_associations : (id : ℕ) (old new : Seen) → new ≡ record old { associations = new.associations } → new.associations.items ≡ old.associations.items ++ id ∷ [] → AddsId kinds.Association id old new
+adds_associations id old new same items = adds_to kinds.Association id old new items others (ap (λ (s : Seen). s.modules) same) where
+  others : (other : Kind) → (kind_place kinds.Association == kind_place other) ≡ false → ids_of new other ≡ ids_of old other
+  others kinds.Concept e = ap (λ (s : Seen). s.concepts.items) same
+  others kinds.Description e = ap (λ (s : Seen). s.descriptions.items) same
+  others kinds.Relationship e = ap (λ (s : Seen). s.relationships.items) same
+  others kinds.Association e = absurd cc
+  others kinds.Concrete e = ap (λ (s : Seen). s.concretes.items) same
+  others kinds.Member e = ap (λ (s : Seen). s.members.items) same
+
+pub adds_concretes : (id : ℕ) (old new : Seen) → new ≡ record old { concretes = new.concretes } → new.concretes.items ≡ old.concretes.items ++ id ∷ [] → AddsId kinds.Concrete id old new
+adds_concretes id old new same items = adds_to kinds.Concrete id old new items others (ap (λ (s : Seen). s.modules) same) where
+  others : (other : Kind) → (kind_place kinds.Concrete == kind_place other) ≡ false → ids_of new other ≡ ids_of old other
+  others kinds.Concept e = ap (λ (s : Seen). s.concepts.items) same
+  others kinds.Description e = ap (λ (s : Seen). s.descriptions.items) same
+  others kinds.Relationship e = ap (λ (s : Seen). s.relationships.items) same
+  others kinds.Association e = ap (λ (s : Seen). s.associations.items) same
+  others kinds.Concrete e = absurd cc
+  others kinds.Member e = ap (λ (s : Seen). s.members.items) same
+
+pub adds_members : (id : ℕ) (old new : Seen) → new ≡ record old { members = new.members } → new.members.items ≡ old.members.items ++ id ∷ [] → AddsId kinds.Member id old new
+adds_members id old new same items = adds_to kinds.Member id old new items others (ap (λ (s : Seen). s.modules) same) where
+  others : (other : Kind) → (kind_place kinds.Member == kind_place other) ≡ false → ids_of new other ≡ ids_of old other
+  others kinds.Concept e = ap (λ (s : Seen). s.concepts.items) same
+  others kinds.Description e = ap (λ (s : Seen). s.descriptions.items) same
+  others kinds.Relationship e = ap (λ (s : Seen). s.relationships.items) same
+  others kinds.Association e = ap (λ (s : Seen). s.associations.items) same
+  others kinds.Concrete e = ap (λ (s : Seen). s.concretes.items) same
+  others kinds.Member e = absurd cc
+
+pub none_seen : (s : Seen) → s.concepts.items ≡ [] → s.descriptions.items ≡ [] → s.relationships.items ≡ [] → s.associations.items ≡ [] → s.concretes.items ≡ [] → s.members.items ≡ [] → s.modules.items ≡ [] → IsSeen [] s
+none_seen s c d r a v m modules = record { ids = ids; modules = λ n. ap (λ xs. list_any (λ other. other == n) xs) modules } where
+  ids : (kind : Kind) → ids_of s kind ≡ []
+  ids kinds.Concept = c
+  ids kinds.Description = d
+  ids kinds.Relationship = r
+  ids kinds.Association = a
+  ids kinds.Concrete = v
+  ids kinds.Member = m
+
+pub same_ids : (old new : Seen) → new ≡ record old { modules = new.modules } → (kind : Kind) → ids_of new kind ≡ ids_of old kind
+same_ids old new same kinds.Concept = ap (λ (s : Seen). s.concepts.items) same
+same_ids old new same kinds.Description = ap (λ (s : Seen). s.descriptions.items) same
+same_ids old new same kinds.Relationship = ap (λ (s : Seen). s.relationships.items) same
+same_ids old new same kinds.Association = ap (λ (s : Seen). s.associations.items) same
+same_ids old new same kinds.Concrete = ap (λ (s : Seen). s.concretes.items) same
+same_ids old new same kinds.Member = ap (λ (s : Seen). s.members.items) same
+
+pub sorted_lists : (rows : List RowValue) (old new : Seen) → IsSeen rows old
+    → IsPermutation old.concepts.items new.concepts.items → IsSorted nat_cmp new.concepts.items
+    → IsPermutation old.descriptions.items new.descriptions.items → IsSorted nat_cmp new.descriptions.items
+    → IsPermutation old.relationships.items new.relationships.items → IsSorted nat_cmp new.relationships.items
+    → IsPermutation old.associations.items new.associations.items → IsSorted nat_cmp new.associations.items
+    → IsPermutation old.concretes.items new.concretes.items → IsSorted nat_cmp new.concretes.items
+    → IsPermutation old.members.items new.members.items → IsSorted nat_cmp new.members.items
+    → new.modules ≡ old.modules → IsSortedSeen rows new
+sorted_lists rows old new seen c cs d ds r rs a as_so v vs m ms same = sorted_seen rows old new seen moved sorted same where
+  moved : (kind : Kind) → IsPermutation (ids_of old kind) (ids_of new kind)
+  moved kinds.Concept = c
+  moved kinds.Description = d
+  moved kinds.Relationship = r
+  moved kinds.Association = a
+  moved kinds.Concrete = v
+  moved kinds.Member = m
+
+  sorted : (kind : Kind) → IsSorted nat_cmp (ids_of new kind)
+  sorted kinds.Concept = cs
+  sorted kinds.Description = ds
+  sorted kinds.Relationship = rs
+  sorted kinds.Association = as_so
+  sorted kinds.Concrete = vs
+  sorted kinds.Member = ms
+
+pub counts_of : (counts : Counts) (seen : Seen) → counts.concepts ≡ length seen.concepts.items → counts.descriptions ≡ length seen.descriptions.items → counts.relationships ≡ length seen.relationships.items → counts.associations ≡ length seen.associations.items → counts.concretes ≡ length seen.concretes.items → counts.members ≡ length seen.members.items → (kind : Kind) → count_of counts kind ≡ length (ids_of seen kind)
+counts_of counts seen c d r a v m kinds.Concept = c
+counts_of counts seen c d r a v m kinds.Description = d
+counts_of counts seen c d r a v m kinds.Relationship = r
+counts_of counts seen c d r a v m kinds.Association = a
+counts_of counts seen c d r a v m kinds.Concrete = v
+counts_of counts seen c d r a v m kinds.Member = m

@@ -1,6 +1,6 @@
 -- Rows of a Snapshot are compared, one after the other.
 use Rattle.std.proofs.Common.{◌≡◌, ℕ, List, [], ◌∷◌, ◌++◌, refl, sym, ap, subst, inl, inr, ◌∙◌}
-use Rattle.std.specs.Prelude.{◌⊎◌, true, false}
+use Rattle.std.specs.Prelude.{◌⊎◌, true, false, Option, Some, None}
 use Rattle.std.specs.List.{AllZip}
 use Rattle.rf2_values.specs.declared.row.Kind.{Kind}
 use Rattle.rf2_values.specs.declared.row.Kind.TheVariants as kinds
@@ -16,7 +16,7 @@ use Rattle.snapshot_check.specs.declared.fault.PackageFault.{PackageFault}
 use Rattle.snapshot_check.specs.declared.fault.CompareFault.{CompareFault}
 use Rattle.snapshot_check.specs.declared.fault.CompareFault.TheVariants as comparefault
 use Rattle.snapshot_check.specs.Differences.{ShownRows, AreDifferences, AreTold, TellsMissing, IsShown, TellsDifferent, HasNoOther, IsDifferent, Agrees, TellsMore, IsExpected, all_shown, shown_of_kind, is_more}
-use Rattle.snapshot_check.specs.Reading.{IsFailure}
+use Rattle.snapshot_check.specs.Reading.{IsFailure, IsReadOf}
 use Rattle.snapshot_check.specs.Private.{IsSeen, IsTaken, IsCompared, IsNothingTold, IsVerdictOn, Notes, Adds, AddsMore, AddsThose, IsItself}
 use Rattle.snapshot_check.proofs.Picking.{none_told, told_then, told_weaker, adds_one, adds_other, adds_weaker, adds_for}
 
@@ -138,3 +138,12 @@ all_kinds reads rows shown limit t0 t1 t2 t3 t4 t5 t6 none a1 a2 a3 a4 a5 a6 =
     let b4 = on (c ++ d ++ r) a t3 t4 b3 a4 in
     let b5 = on (c ++ d ++ r ++ a) v t4 t5 b4 a5 in
     on (c ++ d ++ r ++ a ++ v) (k kinds.Member) t5 t6 b5 a6
+
+-- what was read of a component
+pub none_read : (reads : RowValue → RowValue → Type 0) (wanted : Option RowValue) → IsReadOf reads wanted None → wanted ≡ None
+none_read reads None is = refl
+none_read reads (Some w) is = absurd is
+
+pub some_read : (reads : RowValue → RowValue → Type 0) (wanted : Option RowValue) (read : RowValue) → IsReadOf reads wanted (Some read) → (w : RowValue) × (wanted ≡ Some w) × reads read w
+some_read reads None read is = absurd is
+some_read reads (Some w) read is = (w, refl, is)

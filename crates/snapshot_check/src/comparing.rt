@@ -74,8 +74,8 @@ impl Compared {
         ensures seen { self.new.seen ≡ self.old.seen }
     {
         match verdict {
-            Verdict::Missing(row) => self.missing.note(limit, row),
-            Verdict::Different(row) => self.different.note(limit, row),
+            Verdict::Missing(row) => Ok(self.missing.note(limit, row)?),
+            Verdict::Different(row) => Ok(self.different.note(limit, row)?),
             Verdict::Same => Ok(()),
         }
     }

@@ -1,4 +1,5 @@
 //! Compares the rows of a package's Snapshot with the rows that a store shows at the package's day.
+#![tactic(auto)]
 
 mod comparing;
 mod fault;

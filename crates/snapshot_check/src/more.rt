@@ -28,7 +28,7 @@ fn add_row(seen: &Seen, row: Row, limit: usize, more: &mut Told<Row>) -> Result<
         → AddsThose rows (row ∷ []) limit more.old more.new) }
 {
     if seen.is_more(&row) {
-        more.note(limit, row)
+        Ok(more.note(limit, row)?)
     } else {
         Ok(())
     }

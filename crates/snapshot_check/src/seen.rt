@@ -133,7 +133,18 @@ impl Seen {
         ensures { (rows : List RowValue) → IsSortedSeen rows self.now
             → result ≡ is_more rows row.now }
     {
-        self.names(row.module_id) && !self.has(row.kind(), row.id)
+        if self.names(row.module_id) {
+            !self.has(row.kind(), row.id)
+        } else {
+            false
+        }
+    }
+
+    /// How many rows of a kind were seen.
+    fn count(&self, kind: Kind) -> u64
+        ensures { result ≡ length (ids_of self.now kind) }
+    {
+        self.ids(kind).len() as u64
     }
 
     /// How many rows of each kind were seen.
@@ -141,12 +152,12 @@ impl Seen {
         ensures { (kind : Kind) → count_of result kind ≡ length (ids_of self.now kind) }
     {
         Counts {
-            concepts: self.concepts.len() as u64,
-            descriptions: self.descriptions.len() as u64,
-            relationships: self.relationships.len() as u64,
-            associations: self.associations.len() as u64,
-            concretes: self.concretes.len() as u64,
-            members: self.members.len() as u64,
+            concepts: self.count(Kind::Concept),
+            descriptions: self.count(Kind::Description),
+            relationships: self.count(Kind::Relationship),
+            associations: self.count(Kind::Association),
+            concretes: self.count(Kind::Concrete),
+            members: self.count(Kind::Member),
         }
     }
 }
