@@ -90,15 +90,13 @@ impl<'a, H: Host, E: Write> PackageRows<'a, H, E> {
 
     /// Reads whole lines of the file. The row reader gets the column names before them, and of the
     /// first lines with them.
-    fn read_lines(
-        &mut self,
-        alloc: Global,
-        kind: Kind,
-        text: &[u8],
-    ) -> Result<(), PackageFault> {
+    fn read_lines(&mut self, alloc: Global, kind: Kind, text: &[u8]) -> Result<(), PackageFault> {
         let before = self.line.saturating_sub(2);
         let rows = if self.line == 1 {
-            let names = text.split_inclusive(|byte| *byte == b'\n').next().unwrap_or(text);
+            let names = text
+                .split_inclusive(|byte| *byte == b'\n')
+                .next()
+                .unwrap_or(text);
             self.names = Vec::from_slice(alloc, names)?;
             read_file(alloc, kind, text)
         } else {

@@ -44,7 +44,10 @@ pub(crate) fn verify<D: Disk + Drop, H: Host, O: Write, E: Write>(
     };
     let Some(date) = day_of(&files) else {
         let name = Shown(asked.name.as_bytes());
-        let _ = writeln!(faults, "sctd: {name}: no file's name ends with a day, as _20210131.txt");
+        let _ = writeln!(
+            faults,
+            "sctd: {name}: no file's name ends with a day, as _20210131.txt"
+        );
         return tell_refusal(alloc, output, LineRefusal::NoFolder);
     };
     let mut shown = StoreAt {
@@ -127,12 +130,22 @@ fn write_differences<E: Write>(
     faults: &mut E,
 ) -> io::Result<()> {
     for row in &found.missing.listed {
-        write_row_of(alloc, "the store shows none of this component: the Snapshot has", row, faults)?;
+        write_row_of(
+            alloc,
+            "the store shows none of this component: the Snapshot has",
+            row,
+            faults,
+        )?;
         writeln!(faults)?;
     }
     write_further(&found.missing, "are missing", faults)?;
     for row in &found.more.listed {
-        write_row_of(alloc, "the Snapshot has none of this component: the store shows", row, faults)?;
+        write_row_of(
+            alloc,
+            "the Snapshot has none of this component: the store shows",
+            row,
+            faults,
+        )?;
         writeln!(faults)?;
     }
     write_further(&found.more, "are more", faults)?;
@@ -182,9 +195,7 @@ fn tell_fault<O: Write, E: Write>(
         CompareFault::OutOfMemory | CompareFault::Package(PackageFault::OutOfMemory) => {
             refuse(alloc, output, Refusal::OutOfMemory)
         }
-        CompareFault::Shown(_) => {
-            refuse(alloc, output, refused.unwrap_or(Refusal::DiskFault))
-        }
+        CompareFault::Shown(_) => { refuse(alloc, output, refused.unwrap_or(Refusal::DiskFault)) }
     }
 }
 

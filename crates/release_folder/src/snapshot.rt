@@ -5,7 +5,7 @@ ghost use Rattle.release_folder.specs.Names.{IsSnapshotFile};
 
 use crate::folder::{names_in, refset_folders};
 use crate::guards::{
-    REFSET, TERMINOLOGY, check_file, check_folder, find_parts, nothing_in,
+    REFSET, TERMINOLOGY, check_file, check_folder, find_parts, is_folder, nothing_in,
 };
 use crate::names::snapshot_kind;
 use crate::obstacle::{FolderReadFault, Obstacle};
@@ -14,6 +14,9 @@ use rf2_values::Kind;
 use std::alloc::Global;
 use std::fs::{self, File, Files};
 use std::io::{self, Read, Seek, SeekFrom};
+
+/// The folder of a package with its Snapshot.
+const SNAPSHOT: &str = "Snapshot";
 
 /// A file of a package's Snapshot.
 #[derive(Drop)]
@@ -53,9 +56,32 @@ pub fn snapshot_files<R: Files<File = File> + AllocGlobal + Clone + Drop>(
         add_files(rt, alloc, &root, &part, scope, &mut files)?;
     }
     if files.is_empty() {
-        return Err(nothing_in(rt, alloc, &root, scope));
+        return Err(no_snapshot_in(rt, alloc, &root, scope));
     }
     Ok(files)
+}
+
+/// The fault for a folder without Snapshot files.
+fn no_snapshot_in<R: Files<File = File>>(
+    rt: &R,
+    alloc: Global,
+    root: &str,
+    scope: Scope,
+) -> FolderReadFault {
+    let Ok(inner) = format!(in alloc; "{root}/{SNAPSHOT}") else {
+        return FolderReadFault::OutOfMemory;
+    };
+    match is_folder(rt, alloc, &inner) {
+        Ok(true) => FolderReadFault::met(
+            alloc,
+            root,
+            Obstacle::Package {
+                refset: REFSET,
+                inner: SNAPSHOT,
+            },
+        ),
+        _ => nothing_in(rt, alloc, root, scope),
+    }
 }
 
 /// Adds the Snapshot files of one folder.

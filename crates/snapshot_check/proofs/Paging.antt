@@ -1,5 +1,5 @@
 -- All rows of a kind, page by page.
-use Rattle.std.proofs.Common.{◌≡◌, ℕ, zero, suc, ◌+◌, ◌<◌, ◌≤◌, List, [], ◌∷◌, ◌++◌, length, take, refl, sym, ap, subst, ◌∙◌, arith, append_assoc, append-nil, length-append}
+use Rattle.std.proofs.Common.{◌≡◌, ℕ, zero, suc, ◌<◌, ◌≤◌, List, [], ◌∷◌, ◌++◌, length, take, refl, sym, ap, ◌∙◌, arith, length-append}
 use Rattle.std.specs.Prelude.{Option, Some, None}
 use Rattle.std.specs.List.{AllZip}
 use Rattle.rf2_values.specs.declared.row.Kind.{Kind}
@@ -9,7 +9,7 @@ use Rattle.rf2_values.specs.Key.{key_of}
 use Rattle.history_model.specs.InOrder.{IsAscending}
 use Rattle.history_model.specs.History.{row_cmp}
 use Rattle.history_model.specs.Queries.{page, all_above}
-use Rattle.history_model.specs.Laws.{last_by, last_id}
+use Rattle.history_model.specs.Laws.{last_id}
 use Rattle.history_model.proofs.Paging.{goes_on}
 use Rattle.history_model.proofs.Snapshots.{page_cons}
 

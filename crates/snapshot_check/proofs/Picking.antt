@@ -1,10 +1,13 @@
 -- Items that are picked of lists.
-use Rattle.std.proofs.Common.{◌≡◌, ℕ, List, [], ◌∷◌, ◌++◌, length, take, refl, sym, ap, subst, inl, inr, ◌∙◌, append_assoc, append-nil}
-use Rattle.std.specs.Prelude.{◌⊎◌}
+use Rattle.std.proofs.Common.{◌≡◌, ℕ, List, [], ◌∷◌, ◌++◌, take, refl, sym, ap, subst, inl, inr, ◌∙◌, append_assoc, append-nil, zero, suc}
 use Rattle.std.specs.List.{AllZip}
 use Rattle.snapshot_check.specs.declared.told.Told.{Told}
 use Rattle.snapshot_check.specs.Differences.{ArePicked, AreTold, IsTold}
 use Rattle.snapshot_check.specs.Private.{IsNoted, IsNothingTold, Adds}
+
+take_none : {X : Type 0} (n : ℕ) → take {A = X} n [] ≡ []
+take_none zero = refl
+take_none (suc n) = refl
 
 module _ {X Y : Type 0} (Is : X → Y → Type 0) (Other : X → Type 0) where
   both_picked : (xs zs : List X) (ys us : List Y) → ArePicked Is Other xs ys → ArePicked Is Other zs us → ArePicked Is Other (xs ++ zs) (ys ++ us)
@@ -27,7 +30,7 @@ module _ {X Y : Type 0} (Is : X → Y → Type 0) (Other : X → Type 0) where
     adds_other x old new other same = record {
       picked = [];
       are = inr (other, refl);
-      told = λ all so. subst (λ ys. IsTold limit ys new) (sym (append-nil all)) (subst (λ t. IsTold limit all t) (sym same) so);
+      told = λ all so. subst (λ ys. IsTold limit ys new) (sym (append-nil all)) (subst (λ (t : Told Y). IsTold limit all t) (sym same) so);
     }
 
     pub adds_both : (xs zs : List X) (old mid new : Told Y) → Adds Is Other xs limit old mid → Adds Is Other zs limit mid new → Adds Is Other (xs ++ zs) limit old new
@@ -38,7 +41,7 @@ module _ {X Y : Type 0} (Is : X → Y → Type 0) (Other : X → Type 0) where
     }
 
     pub none_told : (told : Told Y) → IsNothingTold told → AreTold Is Other [] limit told
-    none_told told none = record { all = []; picked = refl; told_so = (none.0, none.1) }
+    none_told told none = record { all = []; picked = refl; told_so = (none.0 ∙ sym (take_none limit), none.1) }
 
     pub told_then : (xs zs : List X) (old new : Told Y) → AreTold Is Other xs limit old → Adds Is Other zs limit old new → AreTold Is Other (xs ++ zs) limit new
     told_then xs zs old new told adds = record {

@@ -1,11 +1,11 @@
 -- Identifiers of a kind, in order, and whether one is among them.
-use Rattle.std.proofs.Common.{◌≡◌, ℕ, zero, suc, ◌+◌, ◌<◌, ◌≤◌, Bool, true, false, cond, Result, Ok, Err, List, [], ◌∷◌, ◌++◌, length, map, get_or, refl, sym, ap, subst, inl, inr, ◌∙◌, arith, append-nil}
-use Rattle.std.specs.Prelude.{◌==◌, ◌||◌, ◌&&◌, not, is_ok, vec_items, MatchResult}
+use Rattle.std.proofs.Common.{◌≡◌, ℕ, zero, suc, ◌<◌, ◌≤◌, Bool, true, false, cond, Result, Ok, Err, List, [], ◌∷◌, ◌++◌, length, map, get_or, refl, sym, ap, subst, inl, inr, ◌∙◌, arith, append-nil}
+use Rattle.std.specs.Prelude.{◌==◌, ◌||◌, ◌&&◌, not, vec_items, MatchResult}
+use Rattle.std.specs.Result.{is_ok}
 use Rattle.std.specs.List.{filter, list_any}
 use Rattle.std.specs.List.Sorted.{IsPermutation, IsSorted, IsBinarySearchResult}
 use Rattle.std.specs.Ordering.{nat_cmp}
 use Rattle.std.proofs.lemmas.Bool.{eqb-true, eq-eqb, cases_lt}
-use Rattle.std.proofs.lemmas.List.Elements.{filter-append}
 use Rattle.std.proofs.lemmas.List.Sorted.{searched, IsNonDecreasingBy-from_sort, list_any-IsPermutation, length_permutation}
 use Rattle.rf2_values.specs.declared.row.Kind.{Kind}
 use Rattle.rf2_values.specs.declared.row.Kind.TheVariants as kinds
@@ -23,7 +23,7 @@ use Rattle.snapshot_check.specs.Private.{ids_of, ids_in, id_if_same, AreModules,
 none_there : (x : ℕ) (xs : List ℕ) → ((k : ℕ) → k < length xs → get_or xs k 0 ≡ x → ⊥) → list_any (λ y. y == x) xs ≡ false
 none_there x [] none = refl
 none_there x (y ∷ ys) none =
-    elim (y == x) as (λ b. y == x ≡ b → (b || list_any (λ z. z == x) ys) ≡ false) [
+    elim (y == x) as (λ b. (y == x) ≡ b → (b || list_any (λ z. z == x) ys) ≡ false) [
       | true ↦ λ e. absurd (none 0 (omega arith) (eqb-true y x e))
       | false ↦ λ e. none_there x ys (λ k below same. none (suc k) (omega arith) same)
     ] refl
@@ -89,7 +89,7 @@ or_false false = refl
 
 pub module_there : (modules : List ℕ) (module_id : ℕ) → list_any (λ other. other == module_id) modules ≡ true → AddsModule module_id modules modules
 module_there modules module_id there n =
-    elim (module_id == n) as (λ b. module_id == n ≡ b → list_any (λ other. other == n) modules ≡ (list_any (λ other. other == n) modules || b)) [
+    elim (module_id == n) as (λ b. (module_id == n) ≡ b → list_any (λ other. other == n) modules ≡ (list_any (λ other. other == n) modules || b)) [
       | true ↦ λ e. (let named : list_any (λ other. other == n) modules ≡ true = subst (λ m. list_any (λ other. other == m) modules ≡ true) (eqb-true module_id n e) there in rw named refl)
       | false ↦ λ e. or_false (list_any (λ other. other == n) modules)
     ] refl
@@ -130,7 +130,7 @@ sorted_seen rows old new seen moved sorted same = record {
 pub more_by_ids : (rows : List RowValue) (row : RowValue) (seen : Seen) → IsSortedSeen rows seen → (list_any (λ n. n == row.module_id) seen.modules.items && not (list_any (λ other. other == row.id) (ids_of seen (kind_of row)))) ≡ is_more rows row
 more_by_ids rows row seen sorted =
     ap (λ b. b && not (list_any (λ other. other == row.id) (ids_of seen (kind_of row)))) (sorted.modules row.module_id)
-    ∙ ap (λ b. is_of_modules rows row && not b) (list_any-IsPermutation (λ other. other == row.id) (ids_in rows (kind_of row)) (ids_of seen (kind_of row)) (sorted.ids (kind_of row)) ∙ among (kind_of row) row.id rows)
+    ∙ ap (λ b. is_of_modules rows row && not b) (sym (list_any-IsPermutation (λ other. other == row.id) (ids_in rows (kind_of row)) (ids_of seen (kind_of row)) (sorted.ids (kind_of row))) ∙ among (kind_of row) row.id rows)
 
 -- how many identifiers there are
 pub counted : (rows : List RowValue) (seen : Seen) → IsSortedSeen rows seen → (kind : Kind) → length (ids_of seen kind) ≡ length (filter (is_kind kind) rows)

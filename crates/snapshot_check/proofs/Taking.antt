@@ -1,6 +1,6 @@
 -- Rows of a Snapshot are compared, one after the other.
-use Rattle.std.proofs.Common.{◌≡◌, ℕ, List, [], ◌∷◌, ◌++◌, refl, sym, ap, subst, inl, inr, ◌∙◌}
-use Rattle.std.specs.Prelude.{◌⊎◌, true, false, Option, Some, None}
+use Rattle.std.proofs.Common.{◌≡◌, ℕ, List, [], ◌∷◌, ◌++◌, refl, sym, subst, inl, inr, ◌∙◌}
+use Rattle.std.specs.Prelude.{true, false, Option, Some, None}
 use Rattle.std.specs.List.{AllZip}
 use Rattle.rf2_values.specs.declared.row.Kind.{Kind}
 use Rattle.rf2_values.specs.declared.row.Kind.TheVariants as kinds

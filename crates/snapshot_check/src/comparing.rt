@@ -1,8 +1,8 @@
 //! Compares a package's Snapshot with the rows that are shown.
 
 ghost use Rattle.std.specs.Prelude.{◌≡◌, [], IfOk, IfErr, OnOk};
-ghost use Rattle.snapshot_check.specs.Differences.{AreDifferences, Exactly};
-ghost use Rattle.snapshot_check.specs.Reading.{IsFailure};
+ghost use Rattle.snapshot_check.specs.Differences.{AreDifferences, Exactly, shown_of};
+ghost use Rattle.snapshot_check.specs.Reading.{IsFailure, IsReadOf};
 ghost use Rattle.snapshot_check.specs.Private.{IsSeen, IsCompared, IsTaken, IsNothingTold};
 ghost use Rattle.snapshot_check.specs.Private.{IsVerdictOn, Notes};
 
@@ -33,13 +33,24 @@ struct Compared {
     different: Told<DifferentRow>,
 }
 
+/// The row that is shown of the component of a row of the Snapshot.
+fn look<S: Shown>(alloc: Global, packaged: &Row, shown: &mut S) -> Result<Option<Row>, ReadFault>
+    ensures found { IfOk result
+        (IsReadOf (S.reads shown.old) (shown_of (S.at_date shown.old) packaged.now)) }
+    ensures stays { OnOk result (S.stays shown.old shown.new) }
+    ensures fails { IfErr result (λ e. S.fails e shown.old shown.new) }
+{
+    let key = packaged.key();
+    shown.row(alloc, key.kind, key.id)
+}
+
 /// Compares a row of the Snapshot with the one that is shown of its component.
 fn judge<S: Shown>(alloc: Global, row: Row, shown: &mut S) -> Result<Verdict, ReadFault>
     ensures verdict { IfOk result (IsVerdictOn (S.reads shown.old) (S.at_date shown.old) row) }
     ensures stays { OnOk result (S.stays shown.old shown.new) }
     ensures fails { IfErr result (λ e. S.fails e shown.old shown.new) }
 {
-    match shown.row(alloc, row.kind(), row.id)? {
+    match look(alloc, &row, shown)? {
         None => Ok(Verdict::Missing(row)),
         Some(other) => {
             if other.is_same(&row) {

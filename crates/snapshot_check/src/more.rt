@@ -47,7 +47,8 @@ fn add_rows(
 {
     let mut last = None;
     for row in ShrinkingList::new(page) {
-        last = Some(row.id);
+        let key = row.key();
+        last = Some(key.id);
         add_row(seen, row, limit, more)?;
     }
     Ok(last)

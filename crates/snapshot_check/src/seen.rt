@@ -133,8 +133,10 @@ impl Seen {
         ensures { (rows : List RowValue) → IsSortedSeen rows self.now
             → result ≡ is_more rows row.now }
     {
-        if self.names(row.module_id) {
-            !self.has(row.kind(), row.id)
+        let module_id = row.module_id;
+        let key = row.key();
+        if self.names(module_id) {
+            !self.has(key.kind, key.id)
         } else {
             false
         }

@@ -1,6 +1,5 @@
-use Rattle.std.proofs.Common.{◌≡◌, List, [], ◌∷◌, ◌++◌, refl, sym, ap, subst, ◌∙◌, append-nil}
+use Rattle.std.proofs.Common.{sym, subst, ◌∙◌, append-nil}
 use Rattle.std.proofs.lemmas.Result.{err_from_is_err_and}
-use Rattle.rf2_values.specs.Row.{RowValue}
 use Rattle.snapshot_check.specs.Private.{IsCompared, IsTaken}
 use Rattle.snapshot_check.proofs.Taking.{none_compared, taken, taken_so, failed_after}
 use Rattle.snapshot_check.proofs.comparing.compare_all.Goals as goal
@@ -39,7 +38,7 @@ returns-in_err-row-clause-fails g c =
 
 pub returns-in_err-take-clause-fails : goal.returns-in_err-take-clause-fails
 returns-in_err-take-clause-fails g c =
-    let p = err_from_is_err_and c.from_residual.result c.from_residual.ensures.1 in
+    let p = err_from_is_err_and c.from_residual-in_err-take.result c.from_residual-in_err-take.ensures.1 in
     let before = c.rows.invariant.stays in
     rw (p.1, p.2) (failed_after _ _ _ _ _ _
     (λ s. g.met.S.Shown.stays_on c.args.shown.now c.rows.shown c.take.new.shown before s)

@@ -1,4 +1,3 @@
-use Rattle.std.proofs.Common.{◌≡◌}
 use Rattle.snapshot_check.specs.Private.{IsCompared}
 use Rattle.snapshot_check.proofs.comparing.compare_all.Given as goal
 

@@ -1,4 +1,4 @@
-use Rattle.std.proofs.Common.{◌≡◌, refl, sym, ◌∙◌}
+use Rattle.std.proofs.Common.{◌∙◌}
 use Rattle.std.specs.Prelude.{None}
 use Rattle.std.proofs.lemmas.Result.{err_from_is_err_and}
 use Rattle.history_model.specs.Queries.{page}
@@ -25,5 +25,5 @@ returns-in_err-read-clause-fails g c =
 
 pub returns-in_err-last-clause-fails : goal.returns-in_err-last-clause-fails
 returns-in_err-last-clause-fails g c =
-    let p = err_from_is_err_and c.from_residual.result c.from_residual.ensures.1 in
+    let p = err_from_is_err_and c.from_residual-in_err-last.result c.from_residual-in_err-last.ensures.1 in
     rw (p.1, p.2) c.in_ok-read.ensures.stays

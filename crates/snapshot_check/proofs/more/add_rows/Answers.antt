@@ -1,5 +1,6 @@
-use Rattle.std.proofs.Common.{◌≡◌, List, [], ◌∷◌, ◌++◌, refl, sym, ap, subst, ◌∙◌, append_assoc, append-nil}
-use Rattle.std.specs.Prelude.{None}
+use Rattle.std.proofs.Common.{◌≡◌, [], ◌∷◌, ◌++◌, refl, sym, ap, subst, ◌∙◌, append_assoc, append-nil}
+use Rattle.std.specs.Prelude.{None, Some}
+use Rattle.rf2_values.specs.declared.key.Key.{Key}
 use Rattle.history_model.specs.Laws.{last_id}
 use Rattle.snapshot_check.specs.Differences.{is_more}
 use Rattle.std.specs.Prelude.{false}
@@ -9,7 +10,7 @@ use Rattle.snapshot_check.proofs.Paging.{last_pushed}
 use Rattle.snapshot_check.proofs.more.add_rows.Goals as goal
 
 pub loop-row-init : goal.loop-row-init
-loop-row-init c = ([], refl, refl, λ rows sorted. adds_none (IsItself rows) (λ row. is_more rows row ≡ false) c.args.limit c.args.more.now)
+loop-row-init c = ([], sym (c.into_iter-row-iterator.ensures.into_iter_gives ∙ c.new-row-items.ensures), refl, λ rows sorted. adds_none (IsItself rows) (λ row. is_more rows row ≡ false) c.args.limit c.args.more.now)
 
 pub loop-row-preserved : goal.loop-row-preserved
 loop-row-preserved c =
@@ -19,7 +20,7 @@ loop-row-preserved c =
     let rest = c.next.new.self in (
       before.0 ++ row ∷ [],
       before.1 ∙ ap (λ left. before.0 ++ left) steps ∙ sym (append_assoc before.0 (row ∷ []) rest),
-      sym (last_pushed before.0 row None),
+      ap (λ (k : Key). Some k.id) c.key-key.ensures.key ∙ sym (last_pushed before.0 row None),
       λ rows sorted. adds_both (IsItself rows) (λ r. is_more rows r ≡ false) c.args.limit before.0 (row ∷ []) c.args.more.now c.loop-row.more c.add_row.new.more (before.3 rows sorted) (c.in_ok-add_row.ensures rows sorted),
     )
 

@@ -7,4 +7,4 @@ use Rattle.snapshot_check.proofs.more.add_rows.Given as goal
 
 abbrev pub invariant-loop-row : goal.invariant-loop-row
 invariant-loop-row l = (done : List RowValue) × (l.fn.page.items ≡ done ++ l.row-iterator) × (l.last ≡ last_id None done)
-    × ((rows : List RowValue) → IsSortedSeen rows l.fn.seen.now → AddsThose rows done l.fn.limit l.fn.more l.more)
+    × ((rows : List RowValue) → IsSortedSeen rows l.fn.seen → AddsThose rows done l.fn.limit l.fn.more l.more)

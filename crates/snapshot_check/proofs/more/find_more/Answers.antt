@@ -1,4 +1,3 @@
-use Rattle.std.proofs.Common.{◌≡◌, refl, sym, subst, ◌∙◌}
 use Rattle.std.proofs.lemmas.Result.{err_from_is_err_and}
 use Rattle.rf2_values.specs.declared.row.Kind.TheVariants as kinds
 use Rattle.snapshot_check.proofs.Taking.{adds_at, all_kinds, failed_after}
@@ -51,7 +50,7 @@ returns-in_err-add_kind-2-clause-fails g c =
     let first = c.args.shown.now in
     let s0 = g.met.S.Shown.stays_still first in
     let s1 = g.met.S.Shown.stays_on first first c.add_kind.new.shown s0 c.in_ok-add_kind.ensures.stays in
-    let p = err_from_is_err_and c.from_residual.result c.from_residual.ensures.1 in
+    let p = err_from_is_err_and c.from_residual-in_err-add_kind-2.result c.from_residual-in_err-add_kind-2.ensures.1 in
     rw (p.1, p.2) (failed_after _ _ _ _ _ _
     (λ s. g.met.S.Shown.stays_on first c.add_kind.new.shown c.add_kind-2.new.shown s1 s)
     (λ e f. g.met.S.Shown.fails_on e first c.add_kind.new.shown c.add_kind-2.new.shown s1 f)
@@ -63,7 +62,7 @@ returns-in_err-add_kind-3-clause-fails g c =
     let s0 = g.met.S.Shown.stays_still first in
     let s1 = g.met.S.Shown.stays_on first first c.add_kind.new.shown s0 c.in_ok-add_kind.ensures.stays in
     let s2 = g.met.S.Shown.stays_on first c.add_kind.new.shown c.add_kind-2.new.shown s1 c.in_ok-add_kind-2.ensures.stays in
-    let p = err_from_is_err_and c.from_residual.result c.from_residual.ensures.1 in
+    let p = err_from_is_err_and c.from_residual-in_err-add_kind-3.result c.from_residual-in_err-add_kind-3.ensures.1 in
     rw (p.1, p.2) (failed_after _ _ _ _ _ _
     (λ s. g.met.S.Shown.stays_on first c.add_kind-2.new.shown c.add_kind-3.new.shown s2 s)
     (λ e f. g.met.S.Shown.fails_on e first c.add_kind-2.new.shown c.add_kind-3.new.shown s2 f)
@@ -76,7 +75,7 @@ returns-in_err-add_kind-4-clause-fails g c =
     let s1 = g.met.S.Shown.stays_on first first c.add_kind.new.shown s0 c.in_ok-add_kind.ensures.stays in
     let s2 = g.met.S.Shown.stays_on first c.add_kind.new.shown c.add_kind-2.new.shown s1 c.in_ok-add_kind-2.ensures.stays in
     let s3 = g.met.S.Shown.stays_on first c.add_kind-2.new.shown c.add_kind-3.new.shown s2 c.in_ok-add_kind-3.ensures.stays in
-    let p = err_from_is_err_and c.from_residual.result c.from_residual.ensures.1 in
+    let p = err_from_is_err_and c.from_residual-in_err-add_kind-4.result c.from_residual-in_err-add_kind-4.ensures.1 in
     rw (p.1, p.2) (failed_after _ _ _ _ _ _
     (λ s. g.met.S.Shown.stays_on first c.add_kind-3.new.shown c.add_kind-4.new.shown s3 s)
     (λ e f. g.met.S.Shown.fails_on e first c.add_kind-3.new.shown c.add_kind-4.new.shown s3 f)
@@ -90,7 +89,7 @@ returns-in_err-add_kind-5-clause-fails g c =
     let s2 = g.met.S.Shown.stays_on first c.add_kind.new.shown c.add_kind-2.new.shown s1 c.in_ok-add_kind-2.ensures.stays in
     let s3 = g.met.S.Shown.stays_on first c.add_kind-2.new.shown c.add_kind-3.new.shown s2 c.in_ok-add_kind-3.ensures.stays in
     let s4 = g.met.S.Shown.stays_on first c.add_kind-3.new.shown c.add_kind-4.new.shown s3 c.in_ok-add_kind-4.ensures.stays in
-    let p = err_from_is_err_and c.from_residual.result c.from_residual.ensures.1 in
+    let p = err_from_is_err_and c.from_residual-in_err-add_kind-5.result c.from_residual-in_err-add_kind-5.ensures.1 in
     rw (p.1, p.2) (failed_after _ _ _ _ _ _
     (λ s. g.met.S.Shown.stays_on first c.add_kind-4.new.shown c.add_kind-5.new.shown s4 s)
     (λ e f. g.met.S.Shown.fails_on e first c.add_kind-4.new.shown c.add_kind-5.new.shown s4 f)
@@ -105,7 +104,7 @@ returns-in_err-add_kind-6-clause-fails g c =
     let s3 = g.met.S.Shown.stays_on first c.add_kind-2.new.shown c.add_kind-3.new.shown s2 c.in_ok-add_kind-3.ensures.stays in
     let s4 = g.met.S.Shown.stays_on first c.add_kind-3.new.shown c.add_kind-4.new.shown s3 c.in_ok-add_kind-4.ensures.stays in
     let s5 = g.met.S.Shown.stays_on first c.add_kind-4.new.shown c.add_kind-5.new.shown s4 c.in_ok-add_kind-5.ensures.stays in
-    let p = err_from_is_err_and c.from_residual.result c.from_residual.ensures.1 in
+    let p = err_from_is_err_and c.from_residual-in_err-add_kind-6.result c.from_residual-in_err-add_kind-6.ensures.1 in
     rw (p.1, p.2) (failed_after _ _ _ _ _ _
     (λ s. g.met.S.Shown.stays_on first c.add_kind-5.new.shown c.add_kind-6.new.shown s5 s)
     (λ e f. g.met.S.Shown.fails_on e first c.add_kind-5.new.shown c.add_kind-6.new.shown s5 f)

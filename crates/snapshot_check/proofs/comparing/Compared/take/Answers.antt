@@ -1,4 +1,4 @@
-use Rattle.std.proofs.Common.{◌≡◌, [], ◌∷◌, ◌++◌, refl, sym, subst}
+use Rattle.std.proofs.Common.{[], ◌∷◌, ◌++◌, refl, sym, subst}
 use Rattle.std.proofs.lemmas.Result.{err_from_is_err_and}
 use Rattle.snapshot_check.specs.Private.{IsSeen}
 use Rattle.snapshot_check.proofs.Taking.{judged}
@@ -22,10 +22,10 @@ returns-in_err-add-clause-fails g c =
 
 pub returns-in_err-verdict-clause-fails : goal.returns-in_err-verdict-clause-fails
 returns-in_err-verdict-clause-fails g c =
-    let p = err_from_is_err_and c.from_residual.result c.from_residual.ensures.1 in
+    let p = err_from_is_err_and c.from_residual-in_err-verdict.result c.from_residual-in_err-verdict.ensures.1 in
     rw (p.1, p.2) c.in_err-verdict.ensures.fails
 
 pub returns-in_err-note-clause-fails : goal.returns-in_err-note-clause-fails
 returns-in_err-note-clause-fails g c =
-    let p = err_from_is_err_and c.from_residual.result c.from_residual.ensures.1 in
+    let p = err_from_is_err_and c.from_residual-in_err-note.result c.from_residual-in_err-note.ensures.1 in
     rw (p.1, p.2) c.in_ok-verdict.ensures.stays
