@@ -14,7 +14,7 @@ ROWS, SEED = 2_500, 3
 EXTENSION, STRANGER = 999000041000000102, 11000221109
 NAMES, EXTENSION_ROWS = range(2_000, 2_020), 20
 KINDS = "CDRAVM"
-# By sort, how many rows a fault of one file may change at least.
+# How a refusal begins.
 DIFFERS = "ERR 46 Differs "
 
 Row = list[str]

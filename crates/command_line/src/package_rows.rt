@@ -18,6 +18,7 @@ const PIECE: u64 = 1_048_576;
 const LONGEST: usize = 131_072;
 
 /// The rows of Snapshot files, in the order of the files.
+#[derive(Drop)]
 pub(crate) struct PackageRows<'a, H: Host, E: Write> {
     host: &'a H,
     faults: &'a mut E,

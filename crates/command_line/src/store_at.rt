@@ -9,6 +9,7 @@ use snapshot_check::Shown;
 use std::alloc::Global;
 
 /// The rows that all imports of a store show at a date.
+#[derive(Drop)]
 pub(crate) struct StoreAt<'a, D: Disk> {
     pub store: &'a mut Store<D>,
     pub date: EffectiveTime,
@@ -51,9 +52,11 @@ impl<D: Disk> Shown for StoreAt<'_, D> {
 
     ghost reads = { λ s read wanted. MayBeReadFor D.view s.store.now read wanted };
 
-    ghost stays = { λ a b. OnlyAsked D.view a.store.now b.store.now × (b.date ≡ a.date) };
+    ghost stays = { λ a b. OnlyAsked D.view a.store.now b.store.now × (b.date ≡ a.date)
+        × (b.store.ghost_name ≡ a.store.ghost_name) };
 
-    ghost fails = { λ e a b. IsOnlyRead D.view a.store.now.disk b.store.now.disk };
+    ghost fails = { λ e a b. IsOnlyRead D.view a.store.now.disk b.store.now.disk
+        × (b.store.ghost_name ≡ a.store.ghost_name) };
 
     ghost exact = { λ a honest read wanted may. exactly D.view a.store.now honest read wanted may };
 
@@ -64,13 +67,15 @@ impl<D: Disk> Shown for StoreAt<'_, D> {
     ghost steady = { λ a b on read wanted may.
         steady_so D.view a.store.now b.store.now on.0 read wanted may };
 
-    ghost stays_still = { λ a. (still D.view a.store.now, refl) };
+    ghost stays_still = { λ a. (still D.view a.store.now, refl, refl) };
 
     ghost stays_on = { λ a b c ab bc.
-        (asked_on D.view a.store.now b.store.now c.store.now ab.0 bc.0, bc.1 ∙ ab.1) };
+        (asked_on D.view a.store.now b.store.now c.store.now ab.0 bc.0, bc.1 ∙ ab.1, bc.2 ∙ ab.2) };
 
-    ghost fails_on = { λ e a b c ab bc.
-        read_then D.view a.store.now.disk b.store.now.disk c.store.now.disk ab.0.only bc };
+    ghost fails_on = { λ e a b c ab bc. (
+      read_then D.view a.store.now.disk b.store.now.disk c.store.now.disk ab.0.only bc.0,
+      bc.1 ∙ ab.2,
+    ) };
 
     fn row(&mut self, _alloc: Global, kind: Kind, id: u128) -> Result<Option<Row>, ReadFault> {
         let date = self.date;
