@@ -12,7 +12,8 @@ import make_release as rf2
 ROWS, SEED = 2_500, 3
 # Another module, whose rows are a package of their own, and a stranger's.
 EXTENSION, STRANGER = 999000041000000102, 11000221109
-NAMES, EXTENSION_ROWS = range(2_000, 2_020), 20
+# The components of the extension.
+NAMES = range(2_000, 2_020)
 KINDS = "CDRAVM"
 # How a refusal begins.
 DIFFERS = "ERR 46 Differs "
