@@ -13,6 +13,7 @@ use Rattle.import_check.specs.declared.scope.Scope.TheVariants as scopes
 use Rattle.rf2_values.specs.declared.row.Kind.{Kind}
 use Rattle.rf2_values.specs.declared.row.Kind.TheVariants as kind
 use Rattle.release_folder.specs.declared.part.Part.{Part}
+use Rattle.release_folder.specs.declared.snapshot.SnapshotFile.{SnapshotFile}
 
 -- a letter for a column of a reference set: `c` for a component, `i` for an integer, `s` for a
 -- string
@@ -58,6 +59,10 @@ pub record IsTaken (scope : Scope) (kind : Kind) (name : List ℕ) : Type 0 wher
 pub record IsSnapshotFile (scope : Scope) (kind : Kind) (name : List ℕ) : Type 0 where
   pub named : IsNamed scope kind name
   pub holds : Contains name (codes "Snapshot")
+
+-- a file of a Snapshot, judged by its name, of the kind that its name says
+abbrev pub IsOfSnapshot : Scope → SnapshotFile → Type 0
+IsOfSnapshot scope file = IsSnapshotFile scope file.kind (string_bytes file.name)
 
 -- a file of concepts of a Full release, judged by its kind and its name
 pub record IsFullOfConcepts (file : ReleaseFile) : Type 0 where

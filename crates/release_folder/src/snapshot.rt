@@ -1,11 +1,11 @@
 //! The files of a package's Snapshot, which are read in parts.
 
-ghost use Rattle.std.specs.Prelude.{◌≤◌, IfOk, All, string_bytes, length};
-ghost use Rattle.release_folder.specs.Names.{IsSnapshotFile};
+ghost use Rattle.std.specs.Prelude.{IfOk, OnOk, All};
+ghost use Rattle.release_folder.specs.Names.{IsOfSnapshot};
 
 use crate::folder::{names_in, refset_folders};
 use crate::guards::{
-    REFSET, TERMINOLOGY, check_file, check_folder, find_parts, is_folder, nothing_in,
+    FoundParts, REFSET, TERMINOLOGY, check_file, check_folder, find_parts, is_folder, nothing_in,
 };
 use crate::names::snapshot_kind;
 use crate::obstacle::{FolderReadFault, Obstacle};
@@ -41,24 +41,56 @@ pub fn snapshot_files<R: Files<File = File> + AllocGlobal + Clone + Drop>(
     name: &str,
     scope: Scope,
 ) -> Result<Vec<SnapshotFile>, FolderReadFault>
-    ensures { IfOk result (λ files. All (λ file. IsSnapshotFile scope file.kind
-        (string_bytes file.name)) files.items) }
+    ensures { IfOk result (λ files. All (IsOfSnapshot scope) files.items) }
 {
     let root = format!(in alloc; "{dir}/{name}")?;
     check_folder(rt, alloc, &root)?;
     let found = find_parts(rt, alloc, &root)?;
+    let folders = refset_folders(rt, alloc, &root, found, scope)?;
     let mut files = Vec::new(alloc);
-    if found.terminology {
-        add_files(rt, alloc, &root, TERMINOLOGY, scope, &mut files)?;
-    }
-    for folder in refset_folders(rt, alloc, &root, found, scope)? {
-        let part = format!(in alloc; "{REFSET}/{folder}")?;
-        add_files(rt, alloc, &root, &part, scope, &mut files)?;
-    }
+    add_terminology(rt, alloc, &root, found, scope, &mut files)?;
+    add_folders(rt, alloc, &root, folders, scope, &mut files)?;
     if files.is_empty() {
         return Err(no_snapshot_in(rt, alloc, &root, scope));
     }
     Ok(files)
+}
+
+/// Adds the Snapshot files of the folder of the terminology, if it was found.
+fn add_terminology<R: Files<File = File> + AllocGlobal + Clone + Drop>(
+    rt: &R,
+    alloc: Global,
+    root: &str,
+    found: FoundParts,
+    scope: Scope,
+    files: &mut Vec<SnapshotFile>,
+) -> Result<(), FolderReadFault>
+    ensures { All (IsOfSnapshot scope) files.old.items
+        → OnOk result (All (IsOfSnapshot scope) files.new.items) }
+{
+    if !found.terminology {
+        return Ok(());
+    }
+    add_files(rt, alloc, root, TERMINOLOGY, scope, files)
+}
+
+/// Adds the Snapshot files of some folders below `Refset`.
+fn add_folders<R: Files<File = File> + AllocGlobal + Clone + Drop>(
+    rt: &R,
+    alloc: Global,
+    root: &str,
+    folders: Vec<String>,
+    scope: Scope,
+    files: &mut Vec<SnapshotFile>,
+) -> Result<(), FolderReadFault>
+    ensures { All (IsOfSnapshot scope) files.old.items
+        → OnOk result (All (IsOfSnapshot scope) files.new.items) }
+{
+    for folder in folders {
+        let part = format!(in alloc; "{REFSET}/{folder}")?;
+        add_files(rt, alloc, root, &part, scope, files)?;
+    }
+    Ok(())
 }
 
 /// The fault for a folder without Snapshot files.
@@ -92,16 +124,15 @@ fn add_files<R: Files<File = File> + AllocGlobal + Clone + Drop>(
     part: &str,
     scope: Scope,
     files: &mut Vec<SnapshotFile>,
-) -> Result<(), FolderReadFault> {
+) -> Result<(), FolderReadFault>
+    ensures { All (IsOfSnapshot scope) files.old.items
+        → OnOk result (All (IsOfSnapshot scope) files.new.items) }
+{
     let folder = format!(in alloc; "{root}/{part}")?;
     for name in names_in(rt, alloc, &folder)? {
         if let Some(kind) = snapshot_kind(name.as_bytes(), scope) {
             let path = format!(in alloc; "{folder}/{name}")?;
-            check_file(rt, alloc, &path)?;
-            let bytes = match fs::metadata(rt, path.as_str()) {
-                Ok(metadata) => metadata.len(),
-                Err(error) => return Err(FolderReadFault::said(alloc, &path, error)),
-            };
+            let bytes = length_of(rt, alloc, &path)?;
             files.push(SnapshotFile {
                 name,
                 path,
@@ -111,6 +142,19 @@ fn add_files<R: Files<File = File> + AllocGlobal + Clone + Drop>(
         }
     }
     Ok(())
+}
+
+/// The length of a regular file that isn't too large.
+fn length_of<R: Files<File = File>>(
+    rt: &R,
+    alloc: Global,
+    path: &str,
+) -> Result<u64, FolderReadFault> {
+    check_file(rt, alloc, path)?;
+    match fs::metadata(rt, path) {
+        Ok(metadata) => Ok(metadata.len()),
+        Err(error) => Err(FolderReadFault::said(alloc, path, error)),
+    }
 }
 
 /// Reads the bytes of a file from one on, at most so many. There are fewer only at its end, which
