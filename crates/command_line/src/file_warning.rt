@@ -60,9 +60,9 @@ fn has_no_rows(files: &[ReleaseFile]) -> bool
 fn has_rows(bytes: &[u8]) -> bool
     ensures { IsTrue result ↔ HasRows bytes.now }
 {
-    match bytes {
-        [front @ .., _] => front.contains(&b'\n'),
-        [] => false,
+    match bytes.split_last() {
+        Some((_, front)) => front.contains(&b'\n'),
+        None => false,
     }
 }
 
@@ -70,9 +70,9 @@ fn has_rows(bytes: &[u8]) -> bool
 fn is_cut(bytes: &[u8]) -> bool
     ensures { IsTrue result ↔ IsCut bytes.now }
 {
-    match bytes {
-        [.., last] => *last != b'\n',
-        [] => false,
+    match bytes.split_last() {
+        Some((last, _)) => *last != b'\n',
+        None => false,
     }
 }
 

@@ -1,5 +1,6 @@
 //! What the rows of a release say of times and modules, which warnings rest on.
 
+use crate::differing::without_end;
 use import_check::ReleaseFile;
 use rf2_values::{EffectiveTime, Kind, Sctid};
 use std::alloc::{AllocError, AllocFailed, Global};
@@ -40,17 +41,8 @@ pub(crate) fn outline_of(alloc: Global, files: &[ReleaseFile]) -> Result<Outline
         with_concepts: BTreeSet::new(alloc),
         bases: BTreeMap::new(alloc),
     };
-    for file in files {
-        outline.note_times(&file.bytes)?;
-        if file.name.as_bytes().starts_with(DEPENDENCIES) {
-            outline.note_bases(&file.bytes)?;
-        }
-    }
-    for file in files {
-        if file.kind == Kind::Concept {
-            outline.note_concepts(&file.bytes)?;
-        }
-    }
+    outline.note_rows(files)?;
+    outline.note_concepts(files)?;
     Ok(outline)
 }
 
@@ -75,6 +67,27 @@ impl Outline {
         Ok(needed)
     }
 
+    /// Adds what the rows of files say of modules.
+    fn note_rows(&mut self, files: &[ReleaseFile]) -> Result<(), AllocError> {
+        for file in files {
+            self.note_times(&file.bytes)?;
+            if file.name.as_bytes().starts_with(DEPENDENCIES) {
+                self.note_bases(&file.bytes)?;
+            }
+        }
+        Ok(())
+    }
+
+    /// Adds the modules whose concepts are among those of files.
+    fn note_concepts(&mut self, files: &[ReleaseFile]) -> Result<(), AllocError> {
+        for file in files {
+            if file.kind == Kind::Concept {
+                self.note_concepts_in(&file.bytes)?;
+            }
+        }
+        Ok(())
+    }
+
     /// Adds the modules of a file's lines, after its column names, and their effective times.
     fn note_times(&mut self, bytes: &[u8]) -> Result<(), AllocError> {
         for line in bytes.split(|byte| *byte == b'\n').skip(1) {
@@ -86,7 +99,7 @@ impl Outline {
     }
 
     /// Adds the modules whose concepts a file has.
-    fn note_concepts(&mut self, bytes: &[u8]) -> Result<(), AllocError> {
+    fn note_concepts_in(&mut self, bytes: &[u8]) -> Result<(), AllocError> {
         for line in bytes.split(|byte| *byte == b'\n').skip(1) {
             if let Some(concept) = number_in(line, 0) {
                 if self.modules.contains_key(&concept) {
@@ -147,7 +160,7 @@ fn dependency_in(line: &[u8]) -> Option<Dependency> {
     let (since, module) = time_and_module(line)?;
     Some(Dependency {
         since,
-        is_active: column(line, 2)? == b"1",
+        is_active: column(line, 2)? == b"1".as_slice(),
         module,
         target: number_in(line, 5)?,
         source_time: time_in(line, 6)?,
@@ -165,8 +178,7 @@ fn time_and_module(line: &[u8]) -> Option<(u32, u64)> {
 
 /// A column of a line, counted from 0, without the end of the line.
 fn column(line: &[u8], number: usize) -> Option<&[u8]> {
-    let line = line.strip_suffix(b"\r").unwrap_or(line);
-    line.split(|byte| *byte == b'\t').nth(number)
+    without_end(line).split(|byte| *byte == b'\t').nth(number)
 }
 
 /// The SCTID in a column.

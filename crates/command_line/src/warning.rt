@@ -103,12 +103,26 @@ fn unknown_modules<D: Disk>(
         return Ok(unknown);
     }
     for module in outline.modules.keys() {
-        let is_known = is_international(*module) || outline.with_concepts.contains(module);
-        if !is_known && !has_concept(*module, store)? {
+        if is_unknown(*module, outline, store)? {
             unknown.insert(*module)?;
         }
     }
     Ok(unknown)
+}
+
+/// Whether neither the store nor the release has the concept of a module, and it isn't one of the
+/// International Edition.
+fn is_unknown<D: Disk>(
+    module: u64,
+    outline: &Outline,
+    store: &mut Store<D>,
+) -> Result<bool, Refusal>
+    ensures { IsOnlyRead D.view store.old.disk store.new.disk }
+{
+    if is_international(module) || outline.with_concepts.contains(&module) {
+        return Ok(false);
+    }
+    Ok(!has_concept(module, store)?)
 }
 
 /// Whether it is a module of the International Edition that every release builds on.

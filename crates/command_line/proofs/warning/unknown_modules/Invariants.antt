@@ -1,5 +1,5 @@
 use Rattle.command_line.specs.Tasks.{IsOnlyRead}
-use Rattle.command_line.proofs.warning.modules_without_own_row.Given as goal
+use Rattle.command_line.proofs.warning.unknown_modules.Given as goal
 
 -- so far the disk was only read
 abbrev pub invariant-loop-module : goal.invariant-loop-module

@@ -1,5 +1,5 @@
 use Rattle.command_line.specs.Tasks.{IsOnlyRead}
-use Rattle.command_line.proofs.warning.unmet_modules.Given as goal
+use Rattle.command_line.proofs.warning.warn_of_bases.Given as goal
 
 -- so far the disk was only read
 abbrev pub invariant-loop : goal.invariant-loop
