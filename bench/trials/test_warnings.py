@@ -27,6 +27,7 @@ LATER_DAYS = [f"{year}{day}" for year in range(2018, 2022) for day in ("0331", "
 SHARE = 3
 UNKEPT = set(rf2.UNKEPT_SORTS)
 WARNING = "sctd: warning: "
+UNKNOWN = WARNING + "modules of which neither the store nor the release has the concept: {}"
 BUILDS = WARNING + "this release builds on {} of module {}, of which the store has nothing{}"
 # What is told where a sort of files is left out of a Full, and of a Delta.
 OF_FULLS = {"D": "Description", "R": "Relationship"}
@@ -164,10 +165,9 @@ def test_sound_parts(place: Place, package: Package) -> None:
             assert warnings(place, store, package.part(number, module)) == []
 
 
-@pytest.mark.parametrize("layout", (1, 2))
-def test_sound_in_earlier_layouts(place: Place, package: Package, layout: int) -> None:
-    store = place.make_store(layout=layout)
-    for number in (0, 3):
+def test_sound_in_layout_2(place: Place, package: Package) -> None:
+    store = place.make_store(layout=2)
+    for number in (0, 1):
         assert warnings(place, store, package.full(number)) == []
 
 
@@ -219,11 +219,10 @@ def test_cut_file(place: Place, package: Package) -> None:
 
 def test_late_row(place: Place, package: Package) -> None:
     """A row that is dated after today; the day of a machine's clock may end meanwhile."""
-    store = place.make_store(layout=3)
     now = datetime.datetime.now(datetime.timezone.utc).date()
     for days, is_told in ((2, True), (-2, False)):
         day = (now + datetime.timedelta(days=days)).strftime("%Y%m%d")
-        delta = package.delta(0)
+        store, delta = place.make_store(day, layout=3), package.delta(0)
         _, path = next(rf2.files_of(delta, ["D"]))
         change(path, DAYS[0].encode(), day.encode())
         told = warnings(place, store, delta)
@@ -231,7 +230,6 @@ def test_late_row(place: Place, package: Package) -> None:
         assert all(line.startswith(f"{WARNING}an effectiveTime is {day}, and today is ")
                    for line in told)
         shutil.rmtree(delta)
-        store = place.make_store("another", layout=3)
 
 
 def test_empty_release(place: Place, package: Package) -> None:
@@ -253,10 +251,9 @@ def test_stranger(place: Place, package: Package) -> None:
     assert warnings(place, store, package.delta(0)) == []
     stranger = str(STRANGER).encode()
     delta = package.delta(1)
-    _, path = next(rf2.files_of(delta, ["Simple"]))
+    _, path = next(rf2.files_of(delta, ["D"]))
     change(path, str(rf2.CORE).encode(), stranger)
-    assert warnings(place, store, delta) == [
-        WARNING + f"modules of which neither the store nor the release has the concept: {STRANGER}"]
+    assert warnings(place, store, delta) == [UNKNOWN.format(STRANGER)]
     known = package.delta(2)
     _, path = next(rf2.files_of(known, ["C"]))
     with path.open("ab") as file:
@@ -296,21 +293,19 @@ def test_inactive_dependency(place: Place, package: Package) -> None:
 def test_base_of_an_earlier_layout(place: Place, package: Package) -> None:
     """A store that was copied from layout 2 has no row of dependencies: where it has the concept of
     a module, all its rows count."""
-    first, second = package.part(0, rf2.CORE), package.part(1, rf2.CORE)
-    for part in (first, second):
+    base = place.make_store("base", layout=2)
+    unknown, later = UNKNOWN.format(EXTENSION), f" later than {DAYS[0]}"
+    missing = [BUILDS.format(DAYS[1], module, later) for module in (rf2.MODEL, rf2.CORE)]
+    for number, wanted in ((0, [unknown, *missing]), (1, [unknown])):
+        part = package.part(number, rf2.CORE)
         _, path = next(rf2.files_of(part, ["C"]))
         with path.open("ab") as file:
-            file.write(b"%d\t%s\t1\t%d\t%d\r\n" % (rf2.CORE, DAYS[0].encode(), rf2.MODEL,
-                                                  rf2.PRIMITIVE))
-    store = place.make_store("before", layout=2)
-    place.import_one(store, first)
-    copy = place.copy(store, "copied", layout=3)
-    assert warnings(place, copy, package.part(1, EXTENSION))[1:] == [
-        BUILDS.format(DAYS[1], rf2.CORE, f" later than {DAYS[0]}")]
-    place.import_one(store, second)
-    other = place.copy(store, "other", layout=3)
-    assert BUILDS.format(DAYS[1], rf2.CORE, "") not in warnings(
-        place, other, package.part(1, EXTENSION))
+            for module in (rf2.MODEL, rf2.CORE):
+                file.write(b"%d\t%s\t1\t%d\t%d\r\n" % (module, DAYS[0].encode(), rf2.MODEL,
+                                                      rf2.PRIMITIVE))
+        place.import_one(base, part)
+        store = place.copy(base, f"copy {number}", layout=3)
+        assert warnings(place, store, package.part(1, EXTENSION)) == wanted
 
 
 # ---- None of it changes what is done

@@ -60,18 +60,15 @@ fn has_no_rows(files: &[ReleaseFile]) -> bool
 fn has_rows(bytes: &[u8]) -> bool
     ensures { IsTrue result ↔ HasRows bytes.now }
 {
-    match bytes.split_last() {
-        Some((_, front)) => front.contains(&b'\n'),
-        None => false,
-    }
+    bytes[..bytes.len().saturating_sub(1)].contains(&b'\n')
 }
 
 /// Whether the last line of a file has no end, so that a part of it may be missing.
 fn is_cut(bytes: &[u8]) -> bool
     ensures { IsTrue result ↔ IsCut bytes.now }
 {
-    match bytes.split_last() {
-        Some((last, _)) => *last != b'\n',
+    match bytes.last() {
+        Some(last) => *last != b'\n',
         None => false,
     }
 }
