@@ -104,7 +104,7 @@ def place_with_releases(place: Place) -> Place:
     place.seconds = SECONDS
     for number in range(1, 5):
         write(place.releases / f"r{number}",
-              {f"Terminology/{CONCEPTS}": COLUMNS + ROOT_ROW % f"{2019 + number}0131"})
+              {f"Terminology/{CONCEPTS}": COLUMNS + ROOT_ROW % f"{2019 + number}0131", **USUAL})
     return place
 
 
@@ -246,7 +246,7 @@ def test_names(place: Place, store: Path, words: Sequence[str]) -> None:
     """Names as people type them: with slashes at the end, and paths without a folder of
     releases."""
     for folder in ("releases/package/Full", "alone"):
-        write(place.path(folder), {f"Terminology/{CONCEPTS}": ROWS})
+        write(place.path(folder), {f"Terminology/{CONCEPTS}": ROWS, **USUAL})
     named = [word.format(place.folder) for word in words]
     assert place.run("import", "--quiet", "--store", store, *named) == (0, "OK 1 1 0\n", "")
 
