@@ -13,7 +13,7 @@ pub returns-then-has_rows : goal.returns-then-has_rows
 returns-then-has_rows c = (
   (λ lie. absurd (false≢true lie)),
   (λ none. absurd (none_found Rows c.args.files.now none
-    (found Rows c.args.files.now c.loop-file.file-index c.file-item.result c.loop-file-test.true c.file-item.is (c.has_rows.ensures.0 c.if-has_rows.true)))),
+      (found Rows c.args.files.now c.loop-file.file-index c.file-item.result c.loop-file-test.true c.file-item.is (c.has_rows.ensures.0 c.if-has_rows.true)))),
 )
 
 pub loop-file-preserved : goal.loop-file-preserved
