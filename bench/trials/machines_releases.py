@@ -10,10 +10,10 @@ from pathlib import Path
 SERVICE = Path(__file__).resolve().parents[2] / "service"
 sys.path.append(str(SERVICE))
 from tests.demo_releases import (  # noqa: E402
-    CASE_INSENSITIVE, COLUMNS, CORE, FILES, FULLY_SPECIFIED, INFERRED, IS_A, MODIFIER, PRIMITIVE,
-    ROOT, SYNONYM)
+    CASE_INSENSITIVE, CORE, FULLY_SPECIFIED, INFERRED, IS_A, MODIFIER, PRIMITIVE, ROOT, SYNONYM)
 from tests.release_files import Rows  # noqa: E402
-from make_release import sctid  # noqa: E402
+from make_release import KINDS, sctid  # noqa: E402
+from harness import write_release  # noqa: E402
 
 CONCEPTS = 12
 FIRST_YEAR = 2001
@@ -47,7 +47,7 @@ def description(item: int, day: str, code: str, kind: str, term: str) -> Columns
 
 def release(number: int) -> dict[str, list[Columns]]:
     """The rows of a release by their kinds."""
-    day, found = day_of(number), dict[str, list[Columns]]((kind, []) for kind in COLUMNS)
+    day, found = day_of(number), dict[str, list[Columns]]((kind, []) for kind in KINDS)
     codes = [TOP, *CODES]
     for place, code in enumerate(codes):
         term = "Thing %d, wording %d (finding)" % (place, number)
@@ -68,7 +68,7 @@ def release(number: int) -> dict[str, list[Columns]]:
 @cache
 def rows_of(pin: int) -> Rows:
     """All rows of the first so many releases, as they were published."""
-    before = rows_of(pin - 1).by_kind if pin else {kind: [] for kind in (*COLUMNS, "M")}
+    before = rows_of(pin - 1).by_kind if pin else {kind: [] for kind in (*KINDS, "M")}
     new = release(pin) if pin else {}
     return Rows({kind: [*rows, *new.get(kind, [])] for kind, rows in before.items()})
 
@@ -76,8 +76,5 @@ def rows_of(pin: int) -> Rows:
 def write(folder: Path, count: int) -> None:
     """Writes so many releases, each in a folder of its own."""
     for number in range(1, count + 1):
-        for kind, rows in release(number).items():
-            path = folder / ("r%d" % number) / (FILES[kind] % day_of(number))
-            path.parent.mkdir(parents=True, exist_ok=True)
-            lines = ["\t".join(COLUMNS[kind].split()), *("\t".join(row) for row in rows)]
-            path.write_bytes("".join(line + "\n" for line in lines).encode())
+        texts = {kind: ["\t".join(row) for row in rows] for kind, rows in release(number).items()}
+        write_release(folder / ("r%d" % number), texts, day_of(number))

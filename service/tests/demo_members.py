@@ -4,6 +4,7 @@ were retired, simple reference sets, maps, and a text definition."""
 import uuid
 from pathlib import Path
 
+import make_release as rf2
 from make_release import sctid
 
 from . import demo_releases as demo
@@ -29,20 +30,11 @@ MAPS = ((CTV3, CTV3_SYSTEM), (HOUSE_MAP, HOUSE_SYSTEM))
 WORDS = ("--languages", LANGUAGES, *(word for one in MAPS for word in ("--map", "%s=%s" % one)))
 TEXT_DEFINITION = "900000000000550004"
 DEFINITION = "A break of bones of the wrist."
-FIXED = "id effectiveTime active moduleId refsetId referencedComponentId"
-FILES = {
-    "T": ("Terminology/sct2_TextDefinition_Delta-en_INT_%s.txt", demo.COLUMNS["D"]),
-    "language": (
-        "Refset/Language/der2_cRefset_LanguageDelta-en_INT_%s.txt", FIXED + " acceptabilityId"),
-    "simple": ("Refset/Content/der2_Refset_SimpleDelta_INT_%s.txt", FIXED),
-    "value": ("Refset/Content/der2_cRefset_AttributeValueDelta_INT_%s.txt", FIXED + " valueId"),
-    "map": ("Refset/Map/der2_sRefset_SimpleMapDelta_INT_%s.txt", FIXED + " mapTarget"),
-    "extended": (
-        "Refset/Map/der2_iisssccRefset_ExtendedMapDelta_INT_%s.txt",
-        FIXED + " mapGroup mapPriority mapRule mapAdvice mapTarget correlationId mapCategoryId"),
-    "odd": ("Refset/Map/der2_ssRefset_OddMapDelta_INT_%s.txt", FIXED + " mapTarget advice"),
-    "descriptor": ("Refset/Metadata/der2_cciRefset_RefsetDescriptorDelta_INT_%s.txt",
-                   FIXED + " attributeDescription attributeType attributeOrder")}
+# The sorts of files that stand beside the basic ones.
+FURTHER = {
+    "T": "TextDefinition", "language": "Language", "simple": "Simple", "value": "AttributeValue",
+    "map": "SimpleMap", "extended": "ExtendedMap", "descriptor": "RefsetDescriptor"}
+ODD_MAP = rf2.members("Refset/Map/der2_ssRefset_OddMap{}", " mapTarget advice")
 METADATA_TAG = " (foundation metadata concept)"
 US_NAME = "United States of America English language reference set"
 GB_NAME = "Great Britain English language reference set"
@@ -70,11 +62,9 @@ DESCRIPTOR, TEXT_TYPE = "900000000000456007", "707000009"
 class WholeMaker(Maker):
     """Collects the rows of members too."""
 
-    def __init__(self) -> None:
-        super().__init__()
-        self.numbers = 0
-        for kinds in self.rows.values():
-            kinds.update({name: [] for name in FILES})
+    sorts = {**Maker.sorts, **{name: rf2.SORTS[sort] for name, sort in FURTHER.items()},
+             "odd": ODD_MAP}
+    numbers = 0
 
     def member(self, file: str, day: str, refset: str, component: str, *further: str,
                known: str = "", active: str = "1") -> str:
@@ -91,18 +81,6 @@ class WholeMaker(Maker):
 
     def in_language(self, day: str, refset: str, name: str, text: str, how: str) -> str:
         return self.member("language", day, refset, self.described(name, text), how)
-
-    def write(self, folder: Path) -> None:
-        members = {release: {file: kinds.pop(file) for file in FILES}
-                   for release, kinds in self.rows.items()}
-        super().write(folder)
-        for release, files in members.items():
-            for file, rows in files.items():
-                name, columns = FILES[file]
-                path = folder / release / (name % release)
-                path.parent.mkdir(parents=True, exist_ok=True)
-                lines = [columns.replace(" ", "\t"), *("\t".join(row) for row in rows)]
-                path.write_bytes("".join(line + "\n" for line in lines).encode())
 
 
 def make(folder: Path) -> dict[str, str]:

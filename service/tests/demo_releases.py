@@ -4,6 +4,7 @@ quotes, texts that turn the line around, a CR within a term."""
 import uuid
 from pathlib import Path
 
+import make_release as rf2
 from make_release import sctid
 
 CORE = "900000000000207008"
@@ -19,21 +20,6 @@ FIRST_DAY = "20150131"
 ROOT = "138875005"
 LONG_TERM = "X" * 20_000
 
-COLUMNS = {
-    "C": "id effectiveTime active moduleId definitionStatusId",
-    "D": "id effectiveTime active moduleId conceptId languageCode typeId term caseSignificanceId",
-    "R": "id effectiveTime active moduleId sourceId destinationId relationshipGroup typeId"
-    " characteristicTypeId modifierId",
-    "V": "id effectiveTime active moduleId sourceId value relationshipGroup typeId"
-    " characteristicTypeId modifierId",
-    "A": "id effectiveTime active moduleId refsetId referencedComponentId targetComponentId",
-}
-FILES = {
-    "C": "Terminology/sct2_Concept_Delta_INT_%s.txt",
-    "D": "Terminology/sct2_Description_Delta-en_INT_%s.txt",
-    "R": "Terminology/sct2_Relationship_Delta_INT_%s.txt",
-    "V": "Terminology/sct2_RelationshipConcreteValues_Delta_INT_%s.txt",
-    "A": "Refset/Content/der2_cRefset_AssociationDelta_INT_%s.txt"}
 # Each release with the last day of its rows.
 RELEASES = {"d1": "20190131", "d2": "20210131", "d3": "20220731"}
 
@@ -41,9 +27,11 @@ RELEASES = {"d1": "20190131", "d2": "20210131", "d3": "20220731"}
 class Maker:
     """Collects the rows of the releases, and the codes of concepts by the names of this module."""
 
+    sorts = rf2.BASIC_SORTS
+
     def __init__(self) -> None:
         self.rows: dict[str, dict[str, list[tuple[str, ...]]]] = {
-            release: {kind: [] for kind in COLUMNS} for release in RELEASES}
+            release: {sort: [] for sort in self.sorts} for release in RELEASES}
         self.codes = {"root": ROOT, "isa": IS_A, "module": CORE}
         self.items = {"0": 1000, "1": 5000, "2": 9000}
 
@@ -94,12 +82,10 @@ class Maker:
         self.put("A", day, member, day, active, CORE, refset, source, target)
 
     def write(self, folder: Path) -> None:
-        for release, kinds in self.rows.items():
-            for kind, rows in kinds.items():
-                path = folder / release / (FILES[kind] % release)
-                path.parent.mkdir(parents=True, exist_ok=True)
-                lines = ["\t".join(COLUMNS[kind].split()), *("\t".join(row) for row in rows)]
-                path.write_bytes("".join(line + "\n" for line in lines).encode())
+        for release, sorts in self.rows.items():
+            for name, rows in sorts.items():
+                rf2.write_file(str(folder / release), "Delta", release, self.sorts[name],
+                               map("\t".join, rows))
 
 
 def make(folder: Path) -> dict[str, str]:

@@ -7,11 +7,12 @@ import uuid
 from collections.abc import Sequence
 from pathlib import Path
 
+import make_release as rf2
 from make_release import sctid
 
-from .demo_releases import (CASE_INSENSITIVE, COLUMNS, CORE, DEFINED, FULLY_SPECIFIED, INFERRED,
-                            IS_A, MODIFIER, PRIMITIVE, ROOT, SYNONYM)
-from .demo_members import ACCEPTABLE, DESCRIPTOR, FIXED, GB, PREFERRED, TEXT_TYPE, US
+from .demo_releases import (CASE_INSENSITIVE, CORE, DEFINED, FULLY_SPECIFIED, INFERRED, IS_A,
+                            MODIFIER, PRIMITIVE, ROOT, SYNONYM)
+from .demo_members import ACCEPTABLE, DESCRIPTOR, GB, PREFERRED, TEXT_TYPE, US
 
 MODEL = "900000000000012004"
 TEXT_DEFINITION = "900000000000550004"
@@ -26,21 +27,11 @@ VALUES = ("#5", "#0.5", "#12.50", "#-3", '"tablet"', '"Oral tablet"', '"x"', "tr
 # The concepts of RefsetDescriptor that say what the columns are.
 NAMED = {"900000000000511003": "Acceptability (foundation metadata concept)",
          "900000000000505001": "Map target (foundation metadata concept)"}
-MAP_FIELDS = " mapGroup mapPriority mapRule mapAdvice mapTarget correlationId mapCategoryId"
-FILES = {
-    "C": ("Terminology/sct2_Concept_Full_INT_20220731.txt", COLUMNS["C"]),
-    "D": ("Terminology/sct2_Description_Full-en_INT_20220731.txt", COLUMNS["D"]),
-    "T": ("Terminology/sct2_TextDefinition_Full-en_INT_20220731.txt", COLUMNS["D"]),
-    "R": ("Terminology/sct2_Relationship_Full_INT_20220731.txt", COLUMNS["R"]),
-    "V": ("Terminology/sct2_RelationshipConcreteValues_Full_INT_20220731.txt", COLUMNS["V"]),
-    "A": ("Refset/Content/der2_cRefset_AssociationFull_INT_20220731.txt", COLUMNS["A"]),
-    "S": ("Refset/Content/der2_Refset_SimpleFull_INT_20220731.txt", FIXED),
-    "L": ("Refset/Language/der2_cRefset_LanguageFull-en_INT_20220731.txt",
-          FIXED + " acceptabilityId"),
-    "P": ("Refset/Map/der2_sRefset_SimpleMapFull_INT_20220731.txt", FIXED + " mapTarget"),
-    "E": ("Refset/Map/der2_iisssccRefset_ExtendedMapFull_INT_20220731.txt", FIXED + MAP_FIELDS),
-    "N": ("Refset/Metadata/der2_cciRefset_RefsetDescriptorFull_INT_20220731.txt",
-          FIXED + " attributeDescription attributeType attributeOrder")}
+# The sorts of files, by the letters that they have here.
+SORTS = {letter: rf2.SORTS[sort] for letter, sort in {
+    "C": "C", "D": "D", "T": "TextDefinition", "R": "R", "V": "V", "A": "A", "S": "Simple",
+    "L": "Language", "P": "SimpleMap", "E": "ExtendedMap", "N": "RefsetDescriptor"}.items()}
+LAST_DAY = "20220731"
 # What each release has, since nothing would be called by its name without it.
 WHOLE = "N"
 
@@ -54,7 +45,7 @@ class Maker:
         self.types = self.concepts[1:9]
         self.simple, self.other, self.map, self.extended = self.concepts[9:13]
         self.refsets = self.concepts[9:13]
-        self.rows: dict[str, list[tuple[str, ...]]] = {sort: [] for sort in FILES}
+        self.rows: dict[str, list[tuple[str, ...]]] = {sort: [] for sort in SORTS}
         self.fixed: list[tuple[str, tuple[str, ...]]] = []
         self.items = 0
         self.concepts_and_hierarchy()
@@ -157,10 +148,8 @@ class Maker:
         """Writes the rows in two releases, each as a Full one."""
         for release, share in zip(RELEASES, (FIRST_SHARE, 1.0)):
             shares = random.Random(1)
-            for sort, (path, columns) in FILES.items():
+            for sort in SORTS:
                 rows = [row for row in self.rows[sort] if shares.random() < share]
                 rows += [row for own, row in self.fixed if own == sort]
-                lines = ["\t".join(columns.split()), *("\t".join(row) for row in rows)]
-                target = folder / release / path
-                target.parent.mkdir(parents=True, exist_ok=True)
-                target.write_bytes("".join(line + "\r\n" for line in lines).encode())
+                rf2.write_file(str(folder / release), "Full", LAST_DAY, SORTS[sort],
+                               map("\t".join, rows))

@@ -17,6 +17,8 @@
 //!   then. `put-list I J` lets the list do so. They print how many lists' links there are.
 //! - `fails PIN` and a question of `case_values` lets each read for it fail, and prints how many
 //!   there are.
+//! - `summed PIN` and a question for concepts prints how many there are, and the sum of each times
+//!   its place, from 1 on, which is too many lines otherwise.
 //! - `reads PIN` and a question for concepts prints how many rows are read for it.
 //! - `taken COUNT COUNT` takes COUNT places of two lists in key order, and then COUNT more.
 //! - `hints COUNT` makes COUNT hints, and `hinted PIN KIND ID DATE` prints, using these hints, the
@@ -187,6 +189,19 @@ impl CaseState {
             count = count.saturating_add(count_lines(found.as_str()));
         }
         Ok(format!(in self.alloc; "{count} lines")?)
+    }
+
+    /// How many identifiers the index answers with, and the sum of each times its place.
+    pub(crate) fn summed(&self, text: &str) -> Answer {
+        let (found, None) = self.ask(text)? else {
+            return Err(NoAnswer::NoQuestion);
+        };
+        let (mut count, mut sum) = (0u64, 0u64);
+        for line in found.lines() {
+            count = count.wrapping_add(1);
+            sum = sum.wrapping_add(number::<u64>(line)?.wrapping_mul(count));
+        }
+        Ok(format!(in self.alloc; "{count} ids, {sum}")?)
     }
 
     /// How many reads a question makes, each of which fails once in each way.

@@ -3,7 +3,9 @@
 //! A part is a release: the lines of its rows, each after its kind, as in `concept 138875005|..`,
 //! in quotes if a byte is given by its digits; for rows that differ in a number see `numbered.rt`.
 //! Each case begins with an empty history.
-//! - `import NAME` prints the receipt, or `refused`;
+//! - `import NAME` prints the receipt, or `refused`; `take NAME` takes the rows as those of the
+//!   next import, in their order and without the plain programs, for which they are too many, and
+//!   prints how many there are;
 //! - `receipt NUMBER` prints the receipt of an import at a later time;
 //! - `snapshot PIN DATE` prints how many rows the Snapshot has;
 //! - `shown NAME COUNT` prints how many ghost rows there are of a release, and how many after they
@@ -106,6 +108,19 @@ impl CaseState {
         Ok(format!(in self.alloc; "{number}: {new} new, {repeated} repeated")?)
     }
 
+    /// Takes the rows of a release as those of the next import, without the plain programs.
+    fn take_rows(&mut self, release: &str) -> Answer {
+        let rows = self.rows_of(release)?;
+        self.imports = self.imports.saturating_add(1);
+        let import = u32::from(self.imports);
+        for row in &rows {
+            let row = row.try_clone(self.alloc)?;
+            self.rows.push(StampedRow { row, import })?;
+        }
+        let count = rows.len();
+        Ok(format!(in self.alloc; "{count} rows")?)
+    }
+
     /// The receipt of an import at a later time.
     fn receipt(&self, words: &str) -> Answer {
         let imports = u32::from(self.imports);
@@ -173,6 +188,7 @@ impl Answers for CaseState {
     fn answer(&mut self, word: &str, rest: &str) -> Answer {
         match word {
             "import" => self.import(rest),
+            "take" => self.take_rows(rest),
             "receipt" => self.receipt(rest),
             "snapshot" => self.snapshot(rest),
             "shown" => self.shown(rest),
@@ -188,6 +204,7 @@ impl Answers for CaseState {
             "chosen" => self.chosen(rest),
             "numbers" => self.numbers(rest),
             "counted" => self.counted(rest),
+            "summed" => self.summed(rest),
             "taken" => self.taken(rest),
             "hints" => self.hint(rest),
             "place" | "hinted" => self.place(word, rest),

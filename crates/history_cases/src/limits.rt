@@ -4,13 +4,13 @@
 //! - `lengths` prints how many places each list of the index has;
 //! - `fits 1-1` prints whether the rows of a range of imports can be added as a further list, and
 //!   `fits-twice 1-1` whether a list may have the first of them twice;
-//! - `chosen PIN KIND ID DATE` reads the component's row at the date twice, and prints both, and what
-//!   a reader says of that place in a list that there isn't;
+//! - `chosen PIN KIND ID DATE` reads the component's row at the date twice, and prints both, and
+//!   what a reader says of that place in a list that there isn't;
 //! - `numbers` prints the numbers that the rows of the first of two lists have among those of both,
 //!   those of the second one's, and what is said of numbers without a row; `numbers 15 1000` prints
 //!   the same by a table that is extended by some of the rows and then by all;
-//! - `counted 1-1 4 1` posts the terms of the rows of a range, and prints how many there are, and how
-//!   many after the rows are cut to 4, and to 1.
+//! - `counted 1-1 4 1` posts the terms of the rows of a range, and prints how many there are, and
+//!   how many after the rows are cut to 4, and to 1.
 
 use crate::case_state::CaseState;
 use crate::indexed::{list_of, list_places, places_of, post_terms};

@@ -3,11 +3,11 @@
 //! - `directory new LAYOUT` begins with the directory of a new store; `directory advance IMPORTS`
 //!   goes to its next epoch, and `directory upgrade` changes its layout to that of the next
 //!   publication;
-//! - `directory add FIRST BYTES ROWS` adds the entry of a segment without a checksum of its own, and
-//!   `directory add FIRST BYTES ROWS CRC` the entry of a new segment with this CRC-32C, in
+//! - `directory add FIRST BYTES ROWS` adds the entry of a segment without a checksum of its own,
+//!   and `directory add FIRST BYTES ROWS CRC` the entry of a new segment with this CRC-32C, in
 //!   hexadecimal; `directory merge FIRST BYTES ROWS` puts one in place of the only two; `directory
-//!   put-back` puts these two back, with the layout and the epoch that the directory had then. All of
-//!   these print the directory;
+//!   put-back` puts these two back, with the layout and the epoch that the directory had then. All
+//!   of these print the directory;
 //! - `directory encode` writes the directory into the block, and prints the block: 16 bytes in each
 //!   line, after the offset of the first. A line that isn't printed has only zeros.
 
@@ -235,7 +235,7 @@ impl Listing {
             self.change(alloc, word, rest)?;
         }
         match &self.directory {
-            Some(_) if word == "encode" => spell_block(alloc, &self.block),
+            Some(_) if word == "encode" => spell_block(alloc, self.block.as_slice()),
             Some(directory) => spell_directory(alloc, directory),
             None => Err(NoAnswer::NoQuestion),
         }

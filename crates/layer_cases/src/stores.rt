@@ -9,10 +9,10 @@
 //! - `store load` loads the store, and prints its current slot, epoch, imports and number of
 //!   segments, or the fault; `store load-with AT BYTES` does so with other bytes at an offset,
 //!   `store turned FIRST END BITS` with these bits of each byte from FIRST up to END inverted, one
-//!   byte at a time, in lines that count from 0, which is FIRST, and `store load-after CALLS CHOICE`
-//!   after a crash, as `crash CALLS CHOICE` makes it, and `store crashes CHOICE CALLS` after CALLS
-//!   changing calls and after each later one: its lines count from 0, which is after CALLS. All of
-//!   these but `store load` leave the disk as it is;
+//!   byte at a time, in lines that count from 0, which is FIRST, and `store load-after CALLS
+//!   CHOICE` after a crash, as `crash CALLS CHOICE` makes it, and `store crashes CHOICE CALLS`
+//!   after CALLS changing calls and after each later one: its lines count from 0, which is after
+//!   CALLS. All of these but `store load` leave the disk as it is;
 //! - `store rows` prints where each row is that is loaded;
 //! - `store trim LENGTH` prints how many bytes were cut off.
 

@@ -4,8 +4,8 @@
 //!   the store reports: `layout` is the number of its layout, `blocks` how many blocks of the disk
 //!   it needs, `left` how many rows of a merge are left, `closed` whether it has to be opened
 //!   again, and `latest` its latest day;
-//! - `step ROWS` merges up to ROWS rows, also 0, and prints how many are left, and `trim` prints how
-//!   many bytes it cuts off.
+//! - `step ROWS` merges up to ROWS rows, also 0, and prints how many are left, and `trim` prints
+//!   how many bytes it cuts off.
 //!
 //! A refusal is printed as its number and Rust's debug text of it.
 

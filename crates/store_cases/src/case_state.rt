@@ -3,8 +3,8 @@
 //!
 //! A question that begins with a number is a line of the protocol, such as `0 IMPORT r1`, which the
 //! store's server answers; `test_support::Releases` has the releases that it names. `holds PART`
-//! prints whether the store has exactly those rows of a part that its imports bring (`held.rt`), and
-//! `complete` imports the samples that it lacks.
+//! prints whether the store has exactly those rows of a part that its imports bring (`held.rt`),
+//! and `complete` imports the samples that it lacks.
 
 use crate::calls::{call, is_refused, store_of};
 use crate::contradicting::ask_contradictions;

@@ -1,8 +1,8 @@
 //! Questions about the disk of a closed store.
 //!
 //! Each of these closes the store and opens it again:
-//! - `open` prints `done`, `length` how many bytes the disk has, and `slot A` or `slot B` the gate of
-//!   a slot and the lines of its content block that aren't zeros, in hexadecimal;
+//! - `open` prints `done`, `length` how many bytes the disk has, and `slot A` or `slot B` the gate
+//!   of a slot and the lines of its content block that aren't zeros, in hexadecimal;
 //! - `patch FROM TO BYTE` writes a byte at all offsets from one up to another; `break CALLS` lets
 //!   the changing call after CALLS others fail before the store is opened, and `torn CALLS` does
 //!   the same with one byte of that call written.

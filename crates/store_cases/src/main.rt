@@ -1,7 +1,7 @@
-//! Stores on disks in memory by worked examples, which are cases in files: imports, and which of them
-//! are refused; questions; merges during both, and trims; what crashes, failures and damage leave;
-//! lines that come and go in pieces; and disks whose names come to refer to something else. What can
-//! be asked of the built program stands in bench/cases/.
+//! Stores on disks in memory by worked examples, which are cases in files: imports, and which of
+//! them are refused; questions; merges during both, and trims; what crashes, failures and damage
+//! leave; lines that come and go in pieces; and disks whose names come to refer to something else.
+//! What can be asked of the built program stands in bench/cases/.
 #![tactic(auto)]
 
 mod calls;

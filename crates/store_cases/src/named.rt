@@ -2,8 +2,8 @@
 //!
 //! `named to BYTES` begins with an empty disk, to which its name refers as long as the disk has at
 //! most so many bytes. `named missed` prints whether a write was refused since the name refers to
-//! something else, and `named bytes FROM TO` bytes of the disk. All others, as `named write ..`, are
-//! calls on the disk, as `case_values::call_disk` makes them.
+//! something else, and `named bytes FROM TO` bytes of the disk. All others, as `named write ..`,
+//! are calls on the disk, as `case_values::call_disk` makes them.
 
 use case_files::{Answer, two_words};
 use case_values::{call_disk, number, spell_part};

@@ -1,7 +1,7 @@
 //! Lines of a part that are sent in one run of the server, so that a pin lasts from one to the
-//! next. In such a part a line follows the word `call`, as in a script; `bytes TEXT` sends the bytes
-//! of a text in quotes, and `later LINE` is a line that the reader would give after its end or its
-//! failure.
+//! next. In such a part a line follows the word `call`, as in a script; `bytes TEXT` sends the
+//! bytes of a text in quotes, and `later LINE` is a line that the reader would give after its end
+//! or its failure.
 //!
 //! - `run PART` sends the lines to the store of the case, and prints what the server returns, and
 //!   then the replies;

@@ -8,12 +8,13 @@
 //!   closed and opened again, is equal to the kept one, byte for byte. `create` makes a store on
 //!   the kept disk, which has to stay unchanged if that is refused.
 //! - `remember PIN PART` and `known PIN PART` ask the store as `scripts.rt` says.
-//! - `crashes CHOICE SCRIPT LOOK` prints what a look shows of the store that each crash leaves, where
-//!   the choice says what becomes of unsynced bytes: `kept`, `lost`, or replaced by this byte. The
-//!   crashes are numbered by the changing calls before them.
-//! - `before-end CHOICES LAST LOOK` prints how many changing calls the store's disk had, and then the
-//!   same of crashes before the last of them, after each of these choices, which commas separate:
-//!   they are numbered by how many calls are left, up to LAST. The store is closed and opened again.
+//! - `crashes CHOICE SCRIPT LOOK` prints what a look shows of the store that each crash leaves,
+//!   where the choice says what becomes of unsynced bytes: `kept`, `lost`, or replaced by this
+//!   byte. The crashes are numbered by the changing calls before them.
+//! - `before-end CHOICES LAST LOOK` prints how many changing calls the store's disk had, and then
+//!   the same of crashes before the last of them, after each of these choices, which commas
+//!   separate: they are numbered by how many calls are left, up to LAST. The store is closed and
+//!   opened again.
 //! - `fails FAILURE SCRIPT SHUT LOOK` lets one call of the disk fail, each in turn: one that
 //!   changes it, with none (`change`) or one (`torn`) of its bytes written, one that reads
 //!   (`read`), or all from one on (`all`). It prints how many runs met a failure, if in each of
@@ -232,8 +233,8 @@ impl<'a> Trials<'a> {
         groups.end()
     }
 
-    /// What a look shows of the stores that crashes leave of a disk, each before so many of its last
-    /// changing calls, from none on; each line after the choice.
+    /// What a look shows of the stores that crashes leave of a disk, each before so many of its
+    /// last changing calls, from none on; each line after the choice.
     fn left_of(&mut self, disk: &MemDisk, choice: &str, last: u64, look: &str) -> Answer {
         let mut groups = Groups::new(self.alloc);
         for left in 0..=last {
