@@ -17,6 +17,7 @@ SHARED, WRONG = FOLDER / "releases.txt", FOLDER / "wrong.txt"
 # What a name in capitals stands for, in a row.
 MEANINGS = {"CORE": rf2.CORE, "PRIM": rf2.PRIMITIVE, "SYN": rf2.SYNONYM,
             "ECI": rf2.CASE_INSENSITIVE, "INF": rf2.INFERRED, "MOD": rf2.MODIFIER}
+NAMED = re.compile(r"\b(?:%s)\b" % "|".join(MEANINGS))
 # The sorts of the files of a release, by the names of their kinds.
 SORTS = {"concept": "C", "description": "D", "relationship": "R", "association": "A",
          "concrete": "V"}
@@ -25,6 +26,8 @@ MEMBERS, DELTA, DAY = "Refset/Content/der2_%sRefset_Example{}", "Delta", "202001
 # What stands for a byte in a text in quotes, and a piece that is repeated.
 ESCAPES = {"n": b"\n", "r": b"\r", "t": b"\t"}
 ESCAPED = re.compile(rb"\\(?:([nrt])|x([0-9a-f]{2})|\(([^*]*)\*(\d+)\))")
+# What says how a check of a file is answered.
+ANSWERED = re.compile(r'(\S+) (".*"|\S+) -> (.*)')
 BLOCKS = ("case", "part", "release")
 # The last line of a reply begins with one of these words.
 LAST_WORDS = ("OK", "END", "ERR")
@@ -72,7 +75,7 @@ def numbers_of(line: Line, count: int) -> list[int]:
 
 def row(text: str) -> str:
     """A row, in which a bar stands for a TAB, and a name in capitals for an identifier."""
-    return "\t".join(str(MEANINGS.get(column, column)) for column in text.split("|"))
+    return NAMED.sub(lambda name: str(MEANINGS[name[0]]), text).replace("|", "\t")
 
 
 def reply(text: str) -> str:
@@ -94,6 +97,11 @@ def unquoted(line: Line, text: str) -> bytes:
     return ESCAPED.sub(meant, text[1:-1].encode())
 
 
+def name_of(line: Line, word: str) -> str:
+    """A name, which may be in quotes."""
+    return unquoted(line, word).decode() if word.startswith('"') else word
+
+
 def sort_of(line: Line) -> rf2.Sort:
     """The sort of the files of a kind, as `concept`, or `member+2` with two further columns."""
     if line.word in SORTS:
@@ -104,6 +112,23 @@ def sort_of(line: Line) -> rf2.Sort:
     count = number_of(line, further) if further else 0
     names = "".join(" column%d" % number for number in range(count))
     return rf2.members(MEMBERS % ("s" * count), names)
+
+
+def file_of(line: Line) -> tuple[str, bytes, bytes, str]:
+    """The path of the only file of a release, its column names, and a text, which may be the column
+    names of another kind; and the reply to a check of it: `KIND "TEXT" -> REPLY`."""
+    found = ANSWERED.fullmatch(line.rest)
+    if not found:
+        raise Fault(line.number, "a kind, a text and a reply are wanted")
+    kind, text, reply = found.groups()
+    sort = sort_of(line._replace(word=kind))
+    data = unquoted(line, row(text)) if text.startswith('"') else names_of(
+        sort_of(line._replace(word=text)))
+    return sort.name.format(DELTA, DAY), names_of(sort), data, reply
+
+
+def names_of(sort: rf2.Sort) -> bytes:
+    return sort.columns.replace(" ", "\t").encode()
 
 
 def files_of(release: Block) -> dict[str, bytes]:
@@ -119,7 +144,7 @@ def files_of(release: Block) -> dict[str, bytes]:
         if is_text:
             files[path] = unquoted(line, line.rest)
             continue
-        before = files.setdefault(path, sort.columns.replace(" ", "\t").encode() + b"\r\n")
+        before = files.setdefault(path, names_of(sort) + b"\r\n")
         files[path] = before + (row(line.rest).encode() + b"\r\n" if line.rest else b"")
     return files
 

@@ -49,7 +49,7 @@ QUESTIONS = [
      "9 calls\n= lost 0: Ok(1), OK 0 0 0 -\n= kept 0: Ok(1), OK 1 0 0 -"),
     ("store_cases", "", "named len", "0", "1"),
     ("store_cases", "", "unwritten demo", UNWRITTEN, UNWRITTEN.replace("1", "0", 1)),
-    ("layer_cases", "", 'time "20200131"', "20200131", "20200130"),
+    ("layer_cases", "", 'term "a"', "a row", "none"),
     ("history_cases", "", "at 0 get concept 138875005 20200131", "none",
      "138875005|20200131|1|CORE|PRIM"),
     ("history_cases", "part row\neach 100-101+1 concept #|20200131|1|CORE|PRIM\n", "import row",

@@ -24,7 +24,8 @@ from pathlib import Path
 from typing import Optional
 
 from case_texts import FOLDER, LAST_WORDS, SHARED, TOP, WRONG, Block, Fault, File, Line, blocks_of
-from case_texts import files_of, files_of_cases, number_of, numbers_of, reply, write_release
+from case_texts import file_of, files_of, files_of_cases, name_of, names_of, number_of, numbers_of
+from case_texts import reply, sort_of, write_release
 from transcripts import Given, Place, differences, place_for, text_of
 
 # The folders that each case finds in its own: those beside the transcripts, and the samples.
@@ -38,6 +39,8 @@ AT_ONCE = 4
 LONG = 4088
 # The row of a year, and the release that brings it.
 YEAR_ROW, YEAR_RELEASE = "138875005|%d0131|1|CORE|PRIM", "new-in-%d"
+# A release of one file, and the mark that may stand before its column names.
+CHECKED_RELEASE, MARK = "file-%d", b"\xef\xbb\xbf"
 HEADING = re.compile(r"^==== (.*)\n", re.MULTILINE)
 ELSE, THE_FILE = "something else came", "the file"
 
@@ -166,6 +169,7 @@ class Case:
         self.run: Optional[Run] = None
         self.is_of_commands = self.has_run = self.is_closed = False
         self.layout: Optional[str] = None
+        self.checked = 0
         self.store = place.folder / STORE
 
     def carry_out(self, case: Block) -> None:
@@ -198,8 +202,9 @@ class Case:
                         else "no run of the program")
         self.finish()
         self.is_of_commands = True
-        words = ["n" * LONG if word == "LONG" else
-                 re.sub("^HERE/", "%s/" % self.place.folder, word) for word in line.rest.split(" ")]
+        words = ["n" * LONG if word == "LONG" else re.sub(
+            "^HERE/", "%s/" % self.place.folder, name_of(line, word))
+                 for word in line.rest.split(" ")]
         self.run = Run(line.number, words, is_server=False)
 
     def server(self, line: Line) -> Run:
@@ -255,6 +260,18 @@ class Case:
             server.take(Line(line.number, ">", "0 IMPORT " + name))
             server.take(Line(line.number, "<", "OK %d 1 0" % (year - first + 1)))
 
+    def check_file(self, line: Line) -> None:
+        """Sends a check of a release of a file: a text that stands alone, or behind the column
+        names of its kind, and then also behind a mark."""
+        path, names, text, wanted = file_of(line)
+        server = self.server(line)
+        for front in (names, MARK + names) if line.word == "behind" else (b"",):
+            self.checked += 1
+            name = CHECKED_RELEASE % self.checked
+            write_release(self.place.folder / RELEASES / name, {path: front + text})
+            server.take(Line(line.number, ">", "0 CHECK " + name))
+            server.take(Line(line.number, "<", wanted))
+
     def bytes_of_store(self, line: Line) -> bytes:
         """The bytes of the case's store, which has to be closed."""
         if not self.is_closed:
@@ -300,12 +317,25 @@ class Case:
         data = bytes([number_of(line, byte, 16)]).ljust(number_of(line, length), b"\0")
         (self.place.folder / name).write_bytes(data)
 
+    def make_path(self, line: Line) -> None:
+        """Makes a folder, a link, or a file of the column names of a kind."""
+        self.finish()
+        first, _, rest = line.rest.partition(" ")
+        if line.word == "names":
+            names = names_of(sort_of(line._replace(word=first)))
+            write_release(self.place.folder, {name_of(line, rest): names})
+        elif line.word == "link":
+            (self.place.folder / first).symlink_to(rest)
+        else:
+            (self.place.folder / line.rest).mkdir(parents=True)
+
 
 WORDS: dict[str, Callable[[Case, Line], None]] = {
     "$": Case.command, "layout": Case.set_layout, "close": Case.close, "open": Case.open,
     "ask": Case.ask, "years": Case.years, "length": Case.check_length, "holds": Case.check_bytes,
     "zeros": Case.check_zeros, "patch": Case.patch, "sample": Case.write_sample,
-    "file": Case.write_file,
+    "file": Case.write_file, "behind": Case.check_file, "alone": Case.check_file,
+    "folder": Case.make_path, "link": Case.make_path, "names": Case.make_path,
 }
 
 

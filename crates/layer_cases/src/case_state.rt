@@ -1,7 +1,6 @@
 //! Dispatches each question by its first word to the function that answers it.
 
-use crate::file_disks::{ask_file_disk, spell_synced};
-use crate::folders::{ask_files, ask_names, ask_release};
+use crate::file_disks::{ask_file_disk, ask_files, spell_synced};
 use crate::one_disk::OneDisk;
 use crate::segments::Segments;
 use crate::{lists, requests, rows, values};
@@ -49,25 +48,11 @@ impl Answers for CaseState<'_> {
     fn answer(&mut self, word: &str, rest: &str) -> Answer {
         match word {
             "request" | "request_fits" => requests::answer(self.alloc, word, rest),
-            "line"
-            | "row"
-            | "file"
-            | "file_of"
-            | "names"
-            | "names_as"
-            | "line_bytes"
-            | "term_bytes" => rows::answer(self.alloc, word, rest),
+            "line" | "row" => rows::answer(self.alloc, word, rest),
             "raised" | "in_order" => lists::answer(self.alloc, word, rest),
-            "sctid"
-            | "sctid_of"
-            | "time"
-            | "member"
-            | "further"
-            | "below"
-            | "bytes_of"
-            | "shown"
-            | "term"
-            | "concept_of" => values::answer(self.alloc, word, rest),
+            "sctid_of" | "further" | "below" | "bytes_of" | "shown" | "term" | "concept_of" => {
+                values::answer(self.alloc, word, rest)
+            }
             "encoded"
             | "checked"
             | "length"
@@ -81,8 +66,6 @@ impl Answers for CaseState<'_> {
             "file-disk" => ask_file_disk(self.rt, &mut self.file, rest),
             "synced" => spell_synced(self.rt, rest),
             "files" => ask_files(self.rt, rest),
-            "release" | "told" => ask_release(self.rt, word, rest),
-            "taken" | "nearly" | "lacks" => ask_names(self.alloc, word, rest),
             _ => self.disk.answer(word, rest),
         }
     }

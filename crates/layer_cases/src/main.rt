@@ -1,6 +1,6 @@
 //! The layers below the index by worked examples, which are cases in files: values, rows and lines;
 //! disks in memory, the slots and extents on them, and a cache of blocks; segments and their
-//! checksums; directories and stores; disks in files, and releases in folders.
+//! checksums; directories and stores; disks in files.
 #![tactic(auto)]
 
 mod caches;
@@ -9,7 +9,6 @@ mod checksums;
 mod directories;
 mod disks;
 mod file_disks;
-mod folders;
 mod listing;
 mod lists;
 mod one_disk;

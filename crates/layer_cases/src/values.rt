@@ -1,8 +1,6 @@
-//! Identifiers, days, members, keys, rows made from columns, and file names as they are printed.
+//! Identifiers, keys, rows made from columns, and file names as they are printed.
 //!
-//! - `sctid TEXT` prints the class of the identifier in a text, `sctid_of NUMBER` the identifier
-//!   with a number, `time TEXT` the number of the day in a text, and `member TEXT` that of the
-//!   member, in hexadecimal; each prints `none` if there is none;
+//! - `sctid_of NUMBER` prints the identifier with a number, or `none`;
 //! - `further TEXT` prints how many further columns of a member the text has, or `none`;
 //! - `below KIND ID DAY < KIND ID DAY` prints whether the first key is less by `compare`, `<` and
 //!   `==`, also with the keys swapped, and each equal to itself;
@@ -13,27 +11,11 @@
 
 use case_files::{Answer, NoAnswer, unquoted};
 use case_values::{day_of, first_word, kind_of, number, sctid_of};
-use rf2_values::{
-    Body, Concept, Description, EffectiveTime, Further, Key, Member, Row, Sctid, Text,
-};
+use rf2_values::{Body, Concept, Description, Further, Key, Row, Sctid, Text};
 use shown_names::Shown;
 use std::alloc::Global;
 use std::cmp::Ordering;
 use std::mem::size_of;
-
-/// The class of the identifier in a text.
-fn class_of(alloc: Global, text: &[u8]) -> Answer {
-    let Some(id) = Sctid::parse(text) else {
-        return Ok(String::from_str(alloc, "none")?);
-    };
-    if Sctid::of(id.value()) != Some(id) {
-        return Ok(String::from_str(alloc, "not the one with its number")?);
-    }
-    match id.class() {
-        Some(class) => Ok(format!(in alloc; "{class:?}")?),
-        None => Ok(String::from_str(alloc, "of another class")?),
-    }
-}
 
 /// The number, or `none`.
 fn spell_number(alloc: Global, number: Option<u64>) -> Answer {
@@ -41,29 +23,6 @@ fn spell_number(alloc: Global, number: Option<u64>) -> Answer {
         Some(number) => Ok(format!(in alloc; "{number}")?),
         None => Ok(String::from_str(alloc, "none")?),
     }
-}
-
-/// The number of the day in a text.
-fn day_in(alloc: Global, text: &[u8]) -> Answer {
-    let day = EffectiveTime::parse(text);
-    if let Some(day) = day
-        && EffectiveTime::of(day.value()) != Some(day)
-    {
-        return Ok(String::from_str(alloc, "not the one with its number")?);
-    }
-    spell_number(alloc, day.map(|day| u64::from(day.value())))
-}
-
-/// The number of the member in a text.
-fn member_in(alloc: Global, text: &[u8]) -> Answer {
-    let Some(member) = Member::parse(text) else {
-        return Ok(String::from_str(alloc, "none")?);
-    };
-    if Member::of(member.value()) != member {
-        return Ok(String::from_str(alloc, "not the one with its number")?);
-    }
-    let number = member.value();
-    Ok(format!(in alloc; "{number:032x}")?)
 }
 
 /// How many further columns a text has. If it has any, `Further` has to keep its bytes unchanged.
@@ -155,10 +114,7 @@ fn with_numbers(alloc: Global, words: &str) -> Answer {
 /// Answers a question about a value.
 pub fn answer(alloc: Global, word: &str, rest: &str) -> Answer {
     match word {
-        "sctid" => class_of(alloc, unquoted(alloc, rest)?.as_slice()),
         "sctid_of" => spell_number(alloc, Sctid::of(number(rest)?).map(|id| id.value())),
-        "time" => day_in(alloc, unquoted(alloc, rest)?.as_slice()),
-        "member" => member_in(alloc, unquoted(alloc, rest)?.as_slice()),
         "further" => further_in(alloc, unquoted(alloc, rest)?.as_slice()),
         "shown" => shown(alloc, unquoted(alloc, rest)?.as_slice()),
         "below" => compare(alloc, rest),
