@@ -37,7 +37,6 @@ MEANINGS = {"CORE": "900000000000207008", "PRIM": "900000000000074008",
 EXAMPLES = 36
 NO_REQUEST = ("ERR 40 ", "ERR 41 ", "ERR 42 ", "ERR 43 ")
 CONCEPTS = "sct2_Concept_Delta_INT_20200131.txt"
-FULL_CONCEPTS = "sct2_Concept_Full_INT_20200131.txt"
 # What is told of a file that stands in a folder which isn't read.
 OUT_OF_PLACE = "sctd: warning: passed over %s, whose name is one to take: "
 COLUMNS = "id\teffectiveTime\tactive\tmoduleId\tdefinitionStatusId\n"
@@ -60,9 +59,6 @@ DEFINITION_ROWS = (
     "caseSignificanceId\n"
     "1000015\t20200131\t1\t900000000000207008\t138875005\ten\t900000000000550004\tAll of it.\t"
     "900000000000448009\n")
-ASSOCIATIONS = "Refset/Content/der2_cRefset_AssociationFull_INT_20200131.txt"
-ASSOCIATION_COLUMNS = ("id\teffectiveTime\tactive\tmoduleId\trefsetId\treferencedComponentId\t"
-                       "targetComponentId\n")
 PARTS = "no folder Terminology or Refset/Content in it"
 # The package of the guide, a question for what a concept of it was called, and one of these terms.
 PACKAGE = TOP / "docs" / "package" / "Full"
@@ -238,18 +234,6 @@ def test_mistakes(place: Place, mistake: Mistake) -> None:
     place.refuses(mistake.words, mistake.reply, mistake.why, mistake.warned)
 
 
-@pytest.mark.parametrize("words", (
-    ["--releases", "releases", "package/Full/"], ["releases/package/Full"],
-    ["./releases//package/Full//"], ["alone"], ["alone/"], ["{}/releases/package/Full"]))
-def test_names(place: Place, store: Path, words: Sequence[str]) -> None:
-    """Names as people type them: with slashes at the end, and paths without a folder of
-    releases."""
-    for folder in ("releases/package/Full", "alone"):
-        write(place.path(folder), {f"Terminology/{CONCEPTS}": ROWS})
-    named = [word.format(place.folder) for word in words]
-    assert place.run("import", "--quiet", "--store", store, *named) == (0, "OK 1 1 0\n", "")
-
-
 def test_forged_names(place: Place) -> None:
     """Nor does the name of a store, or of a file of a release, make a line of its own."""
     assert place.run("init", "--store", FORGED) == (0, "OK\n", "")
@@ -263,45 +247,7 @@ def test_forged_names(place: Place) -> None:
     assert CONCEPTS.replace(".txt", "\\nsctd: took it.txt, line 2: ") in ran.faults
 
 
-# ---- What an import tells
-
-
-@pytest.mark.parametrize("is_quiet", (False, True))
-def test_telling(place: Place, store: Path, is_quiet: bool) -> None:
-    """What an import tells beside its reply."""
-    near = "xsct2_Concept_full_INT_20200131.txt"
-    write(place.releases / "told", {
-        f"Terminology/{CONCEPTS}": ROWS, f"Terminology/{near}": COLUMNS,
-        "Terminology/readme.txt": "", "Refset/Map/map.txt": "", "notes\nsctd: forged": ""})
-    words = ["--quiet"] if is_quiet else []
-    status, output, faults = place.run("import", "--store", store, "releases/told", *words)
-    assert status == 0 and output.startswith("OK ")
-    lines = faults.splitlines()
-    warning = f"sctd: warning: passed over Terminology/{near}, "
-    assert any(line.startswith(warning) for line in lines), lines
-    for line in ("reading " + CONCEPTS, f"took {CONCEPTS}: Concept, rows: 1",
-                 "passed over Terminology/readme.txt", "passed over Refset/Map/map.txt",
-                 "passed over notes\\nsctd: forged", "importing"):
-        assert ("sctd: " + line in lines) != is_quiet, (line, lines)
-    assert not any(line.startswith("sctd: forged") for line in lines)
-
-
-# A Full release with concepts and no descriptions, and files that stand in other folders.
-LACKING = {f"Full/Terminology/{FULL_CONCEPTS}": ROWS, f"Full/terminology/{CONCEPTS}": COLUMNS}
-LACKED = [OUT_OF_PLACE % f"terminology/{CONCEPTS}"
-          + "a release has it in Terminology or a folder of Refset"]
-LACKED += [f"sctd: warning: a Full file of concepts was taken, and no {kind} file"
-           for kind in ("Description", "Relationship", "Refset")]
-
-
-@pytest.mark.parametrize("files, name, told", (
-    ({ASSOCIATIONS: ASSOCIATION_COLUMNS}, "made",
-     ["sctd: warning: no Concept, Description or Relationship file was taken"]),
-    (LACKING, "made/Full", LACKED)), ids=("few kinds", "no descriptions"))
-def test_lacking(place: Place, store: Path, files: Files, name: str, told: Sequence[str]) -> None:
-    write(place.releases / "made", files)
-    ran = place.run("import", "--quiet", "--store", store, "releases/" + name)
-    assert (ran.status, ran.faults.splitlines()) == (0, told)
+# ---- What an import takes
 
 
 class Taken(NamedTuple):
