@@ -70,25 +70,21 @@ def test_another_reply_is_expected(place: Place, monkeypatch: pytest.MonkeyPatch
     assert told.startswith("WRONG with 1 refused") and f"{IMPORTED!r}: ['OK 1 6 0']" in told
 
 
-def test_more_refusals_of_a_line_are_wanted(place: Place, monkeypatch: pytest.MonkeyPatch,
-                                            capsys: pytest.CaptureFixture[str]) -> None:
-    monkeypatch.setattr(growths_lines, "LEAST", TOO_MANY)
+# What is put in the place of a constant, and what is told then.
+EXPECTED = {
+    "more refusals of a line are wanted": (
+        "LEAST", TOO_MANY, f"NOT TRIED: {TOO_MANY} refusals of it are wanted"),
+    "more refusals of an opening are wanted": ("LEAST_STARTS", TOO_MANY, "NOTHING TRIED"),
+    "no refusal of a line is wanted": (
+        "NONE_READ", ("OK", "END", "ERR"), "refused, as if memory had run out")}
+
+
+@pytest.mark.parametrize("name, value, told", EXPECTED.values(), ids=EXPECTED.keys())
+def test_lines(place: Place, monkeypatch: pytest.MonkeyPatch, capsys: pytest.CaptureFixture[str],
+               name: str, value: object, told: str) -> None:
+    monkeypatch.setattr(growths_lines, name, value)
     assert not runs_on(place).are_right()
-    assert f"NOT TRIED: {TOO_MANY} refusals of it are wanted" in capsys.readouterr().out
-
-
-def test_more_refusals_of_an_opening_are_wanted(place: Place, monkeypatch: pytest.MonkeyPatch,
-                                                capsys: pytest.CaptureFixture[str]) -> None:
-    monkeypatch.setattr(growths_lines, "LEAST_STARTS", TOO_MANY)
-    assert not runs_on(place).are_right()
-    assert "NOTHING TRIED" in capsys.readouterr().out
-
-
-def test_no_refusal_of_a_line_is_wanted(place: Place, monkeypatch: pytest.MonkeyPatch,
-                                        capsys: pytest.CaptureFixture[str]) -> None:
-    monkeypatch.setattr(growths_lines, "NONE_READ", ("OK", "END", "ERR"))
-    assert not runs_on(place).are_right()
-    assert "refused, as if memory had run out" in capsys.readouterr().out
+    assert told in capsys.readouterr().out
 
 
 def rooms_on(place: Place, monkeypatch: pytest.MonkeyPatch, least: int = 1) -> bool:
@@ -105,25 +101,22 @@ def test_all_is_right_with_little_room(place: Place, monkeypatch: pytest.MonkeyP
     assert rooms_on(place, monkeypatch), capsys.readouterr().out
 
 
-def test_there_is_always_room(place: Place, monkeypatch: pytest.MonkeyPatch,
-                              capsys: pytest.CaptureFixture[str]) -> None:
-    monkeypatch.setattr(growths_room, "STEP", TOO_MANY)
-    assert not rooms_on(place, monkeypatch, 2)
-    assert "IMPORT r1: refused 1\nNOT TRIED" in capsys.readouterr().out
+# How many refusals of a line are wanted, the constants that are others, and what is told how often.
+ROOM = {
+    "there is always room": (2, ["STEP"], "IMPORT r1: refused 1\nNOT TRIED", 1),
+    "more refusals are wanted": (TOO_MANY, ["LEAST_MADE", "LEAST_OPENED"],
+                                 f"NOT TRIED: {TOO_MANY} refusals of it are wanted", 3),
+    "a line is refused that takes nothing": (
+        0, [], "NOT TRIED: no refusals of it are wanted", 1)}
 
 
-def test_more_refusals_for_want_of_room_are_wanted(place: Place, monkeypatch: pytest.MonkeyPatch,
-                                                   capsys: pytest.CaptureFixture[str]) -> None:
-    monkeypatch.setattr(growths_room, "LEAST_MADE", TOO_MANY)
-    monkeypatch.setattr(growths_room, "LEAST_OPENED", TOO_MANY)
-    assert not rooms_on(place, monkeypatch, TOO_MANY)
-    assert capsys.readouterr().out.count(f"NOT TRIED: {TOO_MANY} refusals of it are wanted") == 3
-
-
-def test_a_line_is_refused_that_takes_nothing(place: Place, monkeypatch: pytest.MonkeyPatch,
-                                              capsys: pytest.CaptureFixture[str]) -> None:
-    assert not rooms_on(place, monkeypatch, 0)
-    assert "NOT TRIED: no refusals of it are wanted" in capsys.readouterr().out
+@pytest.mark.parametrize("least, names, told, count", ROOM.values(), ids=ROOM.keys())
+def test_room(place: Place, monkeypatch: pytest.MonkeyPatch, capsys: pytest.CaptureFixture[str],
+              least: int, names: Sequence[str], told: str, count: int) -> None:
+    for name in names:
+        monkeypatch.setattr(growths_room, name, TOO_MANY)
+    assert not rooms_on(place, monkeypatch, least)
+    assert capsys.readouterr().out.count(told) == count
 
 
 def test_another_reply_with_room_is_expected(place: Place, monkeypatch: pytest.MonkeyPatch,
