@@ -1,13 +1,11 @@
 -- Lists that a loop makes.
 use Rattle.std.proofs.Common.{◌≡◌, ℕ, zero, suc, ◌+◌, ◌<◌, Bool, true, false, cond, List, [], ◌∷◌, ◌++◌, length, get_or, map, take, drop, refl, sym, ap, ◌∙◌, append-nil, append_assoc}
 use Rattle.std.specs.Prelude.{◌&&◌, insert, flat_map}
-use Rattle.std.specs.List.{filter, take-map, drop-map}
+use Rattle.std.specs.List.{filter, filter_map, cons_option, take-map, drop-map}
 use Rattle.std.proofs.lemmas.List.{take_more, map-append}
 use Rattle.std.proofs.lemmas.List.Elements.{filter-append}
-use Rattle.std.specs.declared.cmp.Ordering.{Ordering}
 use Rattle.std.proofs.lemmas.Bool.{and_parts}
-use Rattle.history_model.specs.InOrder.{put, in_order}
-use Rattle.plain_history.proofs.Placing.{in_order_push}
+use Rattle.plain_history.specs.Private.{when}
 
 pub map_take : {X Y : Type 0} (f : X → Y) (n : ℕ) (xs : List X) → map f (take n xs) ≡ take n (map f xs)
 map_take f zero xs = refl
@@ -35,6 +33,16 @@ pub flat_map_push : {X Y : Type 0} (f : X → List Y) (xs : List X) (x : X) → 
 flat_map_push f [] x = append-nil (f x)
 flat_map_push f (y ∷ xs) x = ap (λ ys. f y ++ ys) (flat_map_push f xs x) ∙ sym (append_assoc (f y) (flat_map f xs) (f x))
 
+-- what passes a test, and then what f gives of it
+pub filter_map-when : {X : Type 0} (p : X → Bool) (f : X → ℕ) (xs : List X) → filter_map (λ x. when (p x) (f x)) xs ≡ map f (filter p xs)
+filter_map-when p f [] = refl
+filter_map-when p f (x ∷ xs) =
+    let rest = filter_map-when p f xs in
+    elim (p x) as (λ t. cons_option (when t (f x)) (filter_map (λ x. when (p x) (f x)) xs) ≡ map f (cond t (x ∷ filter p xs) (filter p xs))) [
+      | true ↦ ap (λ ys. f x ∷ ys) rest
+      | false ↦ rest
+    ]
+
 module _ {X : Type 0} (q p : X → Bool) where
   -- one element, where both tests hold and where one fails
   both_of_one : (x : X) (t : Bool) → (q x && p x) ≡ t → filter p (filter q (x ∷ [])) ≡ cond t (x ∷ []) []
@@ -51,23 +59,3 @@ module _ {X : Type 0} (q p : X → Bool) where
       ∙ ap (filter p) (filter-append q (take i xs) (x ∷ []))
       ∙ filter-append p (filter q (take i xs)) (filter q (x ∷ []))
       ∙ ap (λ ys. filter p (filter q (take i xs)) ++ ys) (both_of_one x t e)
-
-  pub sorted_next : (cmp : X → X → Ordering) (xs : List X) (i : ℕ) (x : X) → i < length xs → x ≡ get_or xs i x → (q x && p x) ≡ true → in_order cmp (filter p (filter q (take (i + 1) xs))) ≡ put cmp x (in_order cmp (filter p (filter q (take i xs))))
-  sorted_next cmp xs i x lt is e = ap (in_order cmp) (filtered_next xs i x true lt is e) ∙ in_order_push cmp (filter p (filter q (take i xs))) x
-
-  pub sorted_same : (cmp : X → X → Ordering) (xs : List X) (i : ℕ) (x : X) → i < length xs → x ≡ get_or xs i x → (q x && p x) ≡ false → in_order cmp (filter p (filter q (take (i + 1) xs))) ≡ in_order cmp (filter p (filter q (take i xs)))
-  sorted_same cmp xs i x lt is e = ap (in_order cmp) (filtered_next xs i x false lt is e ∙ append-nil (filter p (filter q (take i xs))))
-
-  module _ {Y : Type 0} (cmp : Y → Y → Ordering) (f : X → Y) where
-    -- what passes both tests, in order
-    abbrev pub chosen : List X → List Y
-    chosen xs = in_order cmp (map f (filter p (filter q xs)))
-
-    pub chosen_next : (xs : List X) (i : ℕ) (x : X) → i < length xs → x ≡ get_or xs i x → (q x && p x) ≡ true → chosen (take (i + 1) xs) ≡ put cmp (f x) (chosen (take i xs))
-    chosen_next xs i x lt is e =
-        ap (λ ys. in_order cmp (map f ys)) (filtered_next xs i x true lt is e)
-        ∙ ap (in_order cmp) (map-append f (filter p (filter q (take i xs))) (x ∷ []))
-        ∙ in_order_push cmp (map f (filter p (filter q (take i xs)))) (f x)
-
-    pub chosen_same : (xs : List X) (i : ℕ) (x : X) → i < length xs → x ≡ get_or xs i x → (q x && p x) ≡ false → chosen (take (i + 1) xs) ≡ chosen (take i xs)
-    chosen_same xs i x lt is e = ap (λ ys. in_order cmp (map f ys)) (filtered_next xs i x false lt is e ∙ append-nil (filter p (filter q (take i xs))))

@@ -11,6 +11,7 @@ mod exports;
 mod hierarchy;
 mod known;
 mod membership;
+mod orders;
 mod relationships;
 mod releases;
 mod snapshots;

@@ -1,12 +1,12 @@
 //! The sources of relationships, computed in the simplest way.
 
-ghost use Rattle.std.specs.Prelude.{◌≡◌, ◌&&◌, true, false, IfOk, MatchOption};
+ghost use Rattle.std.specs.Prelude.{◌≡◌, IfOk};
 ghost use Rattle.std.specs.List.{filter};
-ghost use Rattle.std.specs.Ordering.{nat_cmp};
-ghost use Rattle.history_model.specs.Queries.{is_above, is_current, source_of};
+ghost use Rattle.history_model.specs.Queries.{is_above, source_of};
 ghost use Rattle.history_model.specs.Relationships.{is_of_type, leads_to, all_sources, sources};
+ghost use Rattle.plain_history.specs.Private.{when};
 
-use crate::edges::put_id;
+use crate::hierarchy::ids_in_order;
 use crate::snapshots::is_current;
 use rf2_values::{Body, EffectiveTime, Row, Sctid};
 use std::alloc::{AllocError, Global};
@@ -23,9 +23,7 @@ fn is_of_type(type_id: Option<u64>, other: Sctid) -> bool
 
 /// The source of an active relationship of the type to the destination, if the row is one.
 fn source_of(row: &Row, type_id: Option<u64>, destination: Sctid) -> Option<Sctid>
-    ensures { MatchOption result (leads_to type_id destination row.now ≡ false)
-        (λ source. (leads_to type_id destination row.now ≡ true)
-        × (source ≡ source_of row.now.body)) }
+    ensures { result ≡ when (leads_to type_id destination row.now) (source_of row.now.body) }
 {
     match &row.body {
         Body::Relationship(relationship)
@@ -36,28 +34,8 @@ fn source_of(row: &Row, type_id: Option<u64>, destination: Sctid) -> Option<Scti
     }
 }
 
-fn source_at(
-    rows: &[Row],
-    date: EffectiveTime,
-    row: &Row,
-    type_id: Option<u64>,
-    destination: Sctid,
-) -> Option<Sctid>
-    ensures { MatchOption result
-        ((is_current rows.now date row.now && leads_to type_id destination row.now) ≡ false)
-        (λ source. ((is_current rows.now date row.now && leads_to type_id destination row.now)
-        ≡ true) × (source ≡ source_of row.now.body)) }
-{
-    if is_current(rows, date, row) {
-        source_of(row, type_id, destination)
-    } else {
-        None
-    }
-}
-
 /// The sources of active relationships of the type, if that is given, to the destination at the
 /// date, ascending.
-#[tactic(auto, using(crate::proofs::Placing::in_order_push), unfolding(history_model::specs::Queries::snapshot, history_model::specs::Relationships::all_sources))]
 fn all_sources(
     alloc: Global,
     rows: &[Row],
@@ -67,13 +45,12 @@ fn all_sources(
 ) -> Result<Vec<Sctid>, AllocError>
     ensures { IfOk result (λ found. found.items ≡ all_sources type_id destination date rows.now) }
 {
-    let mut found = Vec::new(alloc);
-    for row in rows {
-        if let Some(source) = source_at(rows, date, row, type_id, destination) {
-            put_id(&mut found, source)?;
-        }
-    }
-    Ok(found)
+    let ids: Vec<Sctid> = rows
+        .iter()
+        .filter(|row| is_current(rows, date, row))
+        .filter_map(|row| source_of(row, type_id, destination))
+        .collect(alloc)?;
+    ids_in_order(alloc, &ids)
 }
 
 /// The identifier as a number, if there is one.

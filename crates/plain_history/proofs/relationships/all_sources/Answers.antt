@@ -1,22 +1,16 @@
-use Rattle.std.proofs.Common.{ap, sym, ◌∙◌}
+use Rattle.std.proofs.Common.{ap, ◌∙◌}
+use Rattle.std.specs.List.{filter}
 use Rattle.std.specs.Ordering.{nat_cmp}
-use Rattle.history_model.specs.InOrder.{put}
-use Rattle.history_model.specs.Queries.{is_current, source_of}
-use Rattle.history_model.specs.Relationships.{leads_to}
-use Rattle.plain_history.proofs.Listed.{chosen_next, chosen_same}
+use Rattle.std.proofs.lemmas.Result.{IfOk-weaker}
+use Rattle.history_model.specs.InOrder.{in_order}
+use Rattle.history_model.specs.Queries.{is_current, source_of, snapshot}
+use Rattle.history_model.specs.Relationships.{leads_to, all_sources}
+use Rattle.plain_history.proofs.Listed.{filter_map-when}
 use Rattle.plain_history.proofs.relationships.all_sources.Goals as goal
-use Rattle.plain_history.proofs.relationships.all_sources.Goals.{in-Some+in_ok-put_id, in_default}
 
-pub loop-row-preserved : goal.loop-row-preserved
-loop-row-preserved c =
+pub returns : goal.returns
+unfolding all_sources snapshot
+returns c =
     let a = c.args in
-    elim c.match-source_at.branch [
-      | in-Some+in_ok-put_id w ↦ ap (λ v. v.items) w.found-is
-          ∙ w.in_ok-put_id.ensures
-          ∙ ap (λ n. put nat_cmp n c.loop-row.found.items) w.in-Some.ensures.1
-          ∙ ap (put nat_cmp (source_of c.row-item.result.body)) c.loop-row.invariant
-          ∙ sym (chosen_next (is_current a.rows.now a.date) (leads_to a.type_id a.destination) nat_cmp (λ row. source_of row.body) a.rows.now c.loop-row.row-index c.row-item.result c.loop-row-test.true c.row-item.is w.in-Some.ensures.0)
-      | in_default w ↦ ap (λ v. v.items) w.found-is
-          ∙ c.loop-row.invariant
-          ∙ sym (chosen_same (is_current a.rows.now a.date) (leads_to a.type_id a.destination) nat_cmp (λ row. source_of row.body) a.rows.now c.loop-row.row-index c.row-item.result c.loop-row-test.true c.row-item.is w.in_default.ensures)
-    ]
+    IfOk-weaker c.ids_in_order.result _ _ (λ found is.
+    is ∙ ap (in_order nat_cmp) (c.deref.ensures.value ∙ c.in_ok-ids.ensures ∙ filter_map-when (leads_to a.type_id a.destination) (λ row. source_of row.body) (filter (is_current a.rows.now a.date) a.rows.now))) c.ids_in_order.ensures
