@@ -72,14 +72,21 @@ class Connection:
         return replies
 
     async def replies(self, count: int) -> list[Reply]:
+        """So many replies. Those behind a refusal are read, so that no later line gets them."""
         done: list[Reply] = []
+        refused = list[HubRefused]()
         replies = Replies()
         while len(done) < count:
             for reply in replies.feed(await self.more(len(replies.rest))):
                 lines = reply.decode().split("\n")[:-1]
-                if lines[-1].startswith("ERR "):
-                    raise refusal(lines[-1])
                 done.append(tuple(lines))
+                if lines[-1].startswith("ERR "):
+                    error = refusal(lines[-1])
+                    if not isinstance(error, HubRefused):
+                        raise error
+                    refused.append(error)
+        if refused:
+            raise refused[0]
         return done
 
     async def more(self, kept: int) -> bytes:
@@ -102,6 +109,6 @@ def encoded(lines: Sequence[str]) -> bytes:
     return b"\n".join(data) + b"\n"
 
 
-def refusal(line: str) -> Exception:
+def refusal(line: str) -> HubGone | HubRefused:
     refused = HubRefused(line)
     return HubGone(line, True) if refused.number in STORE_IS_GONE else refused
