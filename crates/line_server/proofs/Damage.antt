@@ -60,7 +60,7 @@ run_held D view has (turn ∷ turns) old new run some =
 pub refused_as_held : {D : Type 0} (honest : Type 0) (releases : Releases) (session : ℕ) (command : Command) (outcome : Result Answer LineRefusal) (old new : Server D) → HoldsBack old.held command → Settles honest releases session command outcome old new
     → (outcome ≡ Err (reason_of old.held)) × (new ≡ old)
 refused_as_held honest releases session command outcome old new is (inl h) = (h.refused, h.unchanged)
-refused_as_held honest releases session command outcome old new is (inr (inl h)) = absurd (not_both command old.store (change_of old.held command is) h.needs_later)
+refused_as_held honest releases session command outcome old new is (inr (inl h)) = absurd (not_both command old.store (change_of old.held command is) (h.lack, h.lacks))
 refused_as_held honest releases session command outcome old new is (inr (inr h)) = absurd (h.free is)
 
 pub damage_holds_back : (D : Type 0) (view : D → DiskView) → DamageHoldsBack D view

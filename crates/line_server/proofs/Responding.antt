@@ -26,7 +26,7 @@ use Rattle.line_server.specs.declared.refusal.LineRefusal.TheVariants as refusal
 use Rattle.line_server.specs.Pins.{AreWithin, pin_of}
 use Rattle.line_server.specs.Sources.{Releases, SourceView, source_view}
 use Rattle.line_server.specs.ReplyValue.{Answer, Done, ReplyValue, reply_value}
-use Rattle.line_server.specs.Replies.{IsUnseen, Server, imports_seen, IsFound, IsAnswer, IsAnswerAt, IsRefusalAt, IsClosed, IsLacking, IsOutOfRange, NeedsLater, Replies, receipt_of, status_of, server}
+use Rattle.line_server.specs.Replies.{IsUnseen, Server, imports_seen, IsFound, IsAnswer, IsAnswerAt, IsRefusalAt, IsClosed, IsLacking, IsOutOfRange, Lacks, LacksAny, Replies, receipt_of, status_of, server}
 use Rattle.store_life.specs.Life.{Other}
 use Rattle.line_server.specs.Turns.{CountsOutcome, GoesBy, HasTurn, IfRefused, IsComparedWith, IsToldBy, LeavesAsked, LeavesDisk}
 use Rattle.line_server.specs.StateValue.{StateValue, IsChange, HoldsBack, reason_of}
@@ -185,8 +185,8 @@ added_unseen view number kind after limit pin s unseen =
 
 module _ {D : Type 0} (view : D → DiskView) (number : ℕ) (question : Question) (old new : StoreValue D) where
   -- as the question is answered that is asked of the first so many imports
-  pub asked_behind : (result : Result ReplyValue LineRefusal) → (NeedsLater (At number question) old → ⊥) → number ≤ old.history.imports → IsQueried result view question number old new → IsCarriedOut result view (At number question) old new
-  asked_behind result has_layout within r has session state free = r has session state (At number question) (inr (refl, within)) has_layout
+  pub asked_behind : (result : Result ReplyValue LineRefusal) → (LacksAny (At number question) old → ⊥) → number ≤ old.history.imports → IsQueried result view question number old new → IsCarriedOut result view (At number question) old new
+  asked_behind result has_all within r has session state free = r has session state (At number question) (inr (refl, within)) has_all
 
   -- there are fewer imports
   pub above_all : old.history.imports < number → IsCarriedOut (Err refusals.PinRange) view (At number question) old old
@@ -290,13 +290,21 @@ module _ {D : Type 0} (source : SourceView) (view : D → DiskView) (line : List
         refused_turn session command s (reason_of s.held) asks (λ releases. inl (session, command, asks, inl (record { held_back = held; refused = refl; unchanged = refl })))
         (λ releases. change_left (reason_of s.held) (reason_kept s.held) (λ release. reason_compares s.held (full s.store.history) (IsStored view s.store) release) releases (imports_seen s session) command (change_of s.held command held)) (reason_counts s.held (view s.store.disk).failures)
 
-    -- the command needs a later layout
-    later_left : (releases : Releases) (seen : ℕ) (c : Command) → NeedsLater c s.store → LeavesDisk view releases seen c (Err (refusals.Store store.LaterVersion)) s.store s.store
-    later_left releases seen (Ask question) h = unasked_left view seen question (refusals.Store store.LaterVersion) s.store
-    later_left releases seen (At number question) h = unasked_left view number question (refusals.Store store.LaterVersion) s.store
-    later_left releases seen c h = absurd h
+    -- the store lacks what the command needs
+    lack_left : (lack : Refusal) (releases : Releases) (seen : ℕ) (c : Command) → Lacks c s.store lack → LeavesDisk view releases seen c (Err (refusals.Store lack)) s.store s.store
+    lack_left lack releases seen (Ask question) h = unasked_left view seen question (refusals.Store lack) s.store
+    lack_left lack releases seen (At number question) h = unasked_left view number question (refusals.Store lack) s.store
+    lack_left lack releases seen c h = absurd h
 
-    pub for_later : NeedsLater command s.store → HasTurn source view line s s (λ turn. IsToldBy (Err (refusals.Store store.LaterVersion)) turn.outcome)
-    for_later needs =
-        refused_turn session command s (refusals.Store store.LaterVersion) asks (λ releases. inl (session, command, asks, inr (inl (record { needs_later = needs; refused = refl; unchanged = refl }))))
-        (λ releases. later_left releases (imports_seen s session) command needs) refl
+    -- nor is it counted as a failure of the disk
+    lack_counts : (lack : Refusal) (c : Command) (failures : ℕ) → Lacks c s.store lack → CountsOutcome (Err (refusals.Store lack)) failures failures
+    lack_counts store.LaterVersion c failures h = refl
+    lack_counts store.NotKept c failures h = refl
+    lack_counts lack (Ask question) failures h = absurd h
+    lack_counts lack (At number question) failures h = absurd h.1
+    lack_counts lack c failures h = absurd h
+
+    pub for_lack : (lack : Refusal) → Lacks command s.store lack → HasTurn source view line s s (λ turn. IsToldBy (Err (refusals.Store lack)) turn.outcome)
+    for_lack lack lacks =
+        refused_turn session command s (refusals.Store lack) asks (λ releases. inl (session, command, asks, inr (inl (record { lack = lack; lacks = lacks; refused = refl; unchanged = refl }))))
+        (λ releases. lack_left lack releases (imports_seen s session) command lacks) (lack_counts lack command (view s.store.disk).failures lacks)
