@@ -4,7 +4,6 @@ It shares the tree of an expression with the gateway and nothing else: no set th
 whole, no question of the program."""
 
 import functools
-import unicodedata
 from collections import defaultdict
 from collections.abc import Iterable, Iterator
 from dataclasses import is_dataclass
@@ -12,6 +11,8 @@ from decimal import Decimal
 from pathlib import Path
 
 from sctd_service.gateway.ecl import syntax as s
+
+from .release_files import plain, words_in
 
 IS_A = "116680003"
 LETTERS = {"sct2_Concept_": "C", "sct2_Description_": "D", "sct2_TextDefinition_": "D",
@@ -274,15 +275,6 @@ def within(count: int, cardinality: s.Cardinality) -> bool:
 
 def ordered(a: Decimal, sign: str, b: Decimal) -> bool:
     return {"=": a == b, "!=": a != b, "<": a < b, "<=": a <= b, ">": a > b, ">=": a >= b}[sign]
-
-
-def plain(text: str) -> str:
-    apart = unicodedata.normalize("NFD", text.casefold())
-    return "".join(letter for letter in apart if unicodedata.category(letter) != "Mn")
-
-
-def words_in(text: str) -> list[str]:
-    return "".join(letter if letter.isalnum() else " " for letter in plain(text)).split()
 
 
 def text_fits(said: str, wanted: s.Text) -> bool:
