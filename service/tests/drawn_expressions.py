@@ -11,6 +11,11 @@ from .drawn_releases import ASSOCIATIONS, DAYS, MODEL, TEXT_DEFINITION, Maker
 
 OPERATORS = ("<", "<<", "<!", "<<!", ">", ">>", ">!", ">>!", "!!>", "!!<")
 EQUALITIES, ORDERS = ("=", "=", "=", "!="), ("=", "!=", "<", "<=", ">", ">=")
+# What is asked of terms, by how they are compared. Some have no word that begins one.
+TERMS_ASKED = {
+    "match": ("a", "heart frac", "FRA", "strass", "ode", "4.5 b1", "mg", "racture", "-", "mg a"),
+    "wild": ("*cu*", "fracture*", "*heart", "* of *", "STRASSE", "*", "", "f*e of h*t", "*12* mg*"),
+    "exact": ("acute", "Acute", "\u00d6dem", "Odem", "B12 4.5 mg/mL", "")}
 # What none of the releases has.
 ABSENT = "73211009"
 
@@ -163,7 +168,9 @@ class Draw:
         return self.common_filter()
 
     def description_filter(self) -> s.Filter:
-        what = self.chance.randrange(5)
+        what = self.chance.randrange(7)
+        if what > 4:
+            return self.term_filter()
         if what == 0:
             kinds = (FULLY_SPECIFIED,), (SYNONYM, TEXT_DEFINITION), (FULLY_SPECIFIED, SYNONYM)
             return self.one_of("typeId", *kinds)
@@ -178,6 +185,11 @@ class Draw:
             own = tuple(self.chance.choice(hows) for _ in found.value)
         own = own if any(own) else ()
         return s.Filter(found.name, found.comparison, found.value, how, own)
+
+    def term_filter(self) -> s.Filter:
+        how = self.chance.choice(["match", "match", "wild", "exact"])
+        texts = self.chance.sample(TERMS_ASKED[how], self.chance.choice([1, 1, 2]))
+        return s.Filter("term", self.chance.choice(EQUALITIES), s.Text(how, tuple(texts)))
 
     def member_filter(self) -> s.Filter:
         what, comparison = self.chance.randrange(6), self.chance.choice(EQUALITIES)

@@ -31,7 +31,8 @@ ASKED = (*DAYS, "20200801", "20210101", "20211231", "20991231")
 # So many are asked beside each other.
 AT_A_TIME = 25
 SIZES = {"ASKED_UPWARDS": (0, 3, 40), "ASKED_ONE_BY_ONE": (0, 10, 1000),
-         "QUESTION_ROWS": (20, 100, 1000, 1000)}
+         "QUESTION_ROWS": (20, 100, 1000, 1000), "FIRST_TERMS": (2, 30, 200),
+         "FILTER_TERMS": (20, 10_000)}
 NO_FIELD = "no reference set there has a field"
 # How many of each have to be among them.
 AT_LEAST = {"some": 1500, "none": 450}

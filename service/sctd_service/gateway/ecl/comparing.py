@@ -11,7 +11,11 @@ from typing import Any
 
 from . import syntax as s
 
-WORD = re.compile(r"[^\W_]+")
+# Letters of Unicode that Python doesn't count as such; a word, which is a longest run of letters and
+# digits; and the words of a pattern that begin where a word of what fits it does.
+FURTHER = "\u24b6-\u24e9\U0001f130-\U0001f149\U0001f150-\U0001f169\U0001f170-\U0001f189"
+WORD = re.compile(r"(?:[^\W_]|[%s])+" % FURTHER)
+WHOLE = re.compile(r"(?<![\w*%s])%s" % (FURTHER, WORD.pattern))
 NUMBER = re.compile(r"[+-]?[0-9]+(\.[0-9]+)?\Z", re.ASCII)
 ANY_LETTERS = "*"
 ORDERS: dict[str, Callable[[Any, Any], bool]] = {
@@ -24,12 +28,17 @@ TRUTHS = {True: "true", False: "false"}
 def folded(text: str) -> str:
     """Without case, and without the marks that letters may bear."""
     letters = unicodedata.normalize("NFD", text.casefold())
-    return "".join(one for one in letters if not unicodedata.combining(one))
+    return "".join(one for one in letters if unicodedata.category(one)[0] != "M")
 
 
 def words_of(text: str) -> list[str]:
-    """The longest runs of letters and digits."""
     return WORD.findall(folded(text))
+
+
+def words_asked(wanted: s.Text) -> list[str]:
+    """Of each of the texts the words that begin words of whatever fits it."""
+    found = WHOLE if wanted.how == s.WILD else WORD
+    return [" ".join(found.findall(folded(text))) for text in wanted.texts]
 
 
 def begins_all(wanted: str, text: str) -> bool:

@@ -24,6 +24,8 @@ GRAMMAR = Path(__file__).parent / "grammar.lark"
 # What a filter compares with: an expression or a list of concepts, ids of descriptions, words (some
 # of which are known), a day, whether something is so, or a text.
 CODES, IDS, WORDS, DAYS, TRUTHS, TEXTS = "codes", "ids", "words", "days", "truths", "texts"
+# What those are that have no codes, words or days.
+SORTS = {TRUTHS: s.Truth, TEXTS: s.Text}
 COMMON = {"moduleId": CODES, "effectiveTime": DAYS, "active": TRUTHS}
 FORMS = {
     s.OF_CONCEPT: {**COMMON, "definitionStatus": WORDS, "definitionStatusId": CODES},
@@ -43,7 +45,6 @@ ACCEPTABILITIES = {
 PROFILE, WHOLE_PROFILE = "history", re.compile(r"history[-_](min|mod|max)\Z", re.I)
 # What comes behind the last letter.
 END = "$END"
-TERMS_LATER = "term filters aren't answered yet"
 
 
 def misspelt(place: int, why: str) -> Problem:
@@ -279,8 +280,6 @@ def checked(about: str, filters: Sequence[Named],
         form = FORMS[about].get(name, "")
         if not form and about != s.OF_MEMBER:
             raise misspelt_at(token, "there is no filter %.40s" % token)
-        if form == TEXTS:
-            raise not_supported(TERMS_LATER)
         if not is_of(form, one, others):
             raise misspelt_at(token, "%s isn't compared so" % name)
         if (one.acceptabilities or one.own) and not name.startswith("dialect"):
@@ -299,8 +298,8 @@ def is_of(form: str, one: s.Filter, others: dict[str, Token] | None) -> bool:
         return True
     if not is_equality:
         return False
-    if form == TRUTHS:
-        return isinstance(value, s.Truth)
+    if form in SORTS:
+        return isinstance(value, SORTS[form])
     if form == WORDS:
         return isinstance(value, tuple) and not are_codes(value)
     if form == IDS:
