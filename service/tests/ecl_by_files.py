@@ -264,8 +264,8 @@ class ByFiles:
         if f.name != "effectiveTime":
             return text_fits(said, value) == is_equal
         if f.comparison in ("=", "!="):
-            return (said in value.texts) == is_equal
-        return ordered(Decimal(said), f.comparison, Decimal(value.texts[0]))
+            return any(said == day for _, day in value.typed) == is_equal
+        return ordered(Decimal(said), f.comparison, Decimal(value.typed[0][1]))
 
 
 def within(count: int, cardinality: s.Cardinality) -> bool:
@@ -278,13 +278,13 @@ def ordered(a: Decimal, sign: str, b: Decimal) -> bool:
 
 
 def text_fits(said: str, wanted: s.Text) -> bool:
-    for text in wanted.texts:
-        if wanted.how == "exact" and said == text:
+    for how, text in wanted.typed:
+        if how == "exact" and said == text:
             return True
-        if wanted.how == "match" and all(
+        if how == "match" and all(
                 any(word[: len(one)] == one for word in words_in(said)) for one in words_in(text)):
             return True
-        if wanted.how == "wild" and is_like(plain(said), plain(text)):
+        if how == "wild" and is_like(plain(said), plain(text)):
             return True
     return False
 

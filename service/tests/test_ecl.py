@@ -127,6 +127,7 @@ TABLE = (
     ("* {{ term = \"wri frac\" }}", LATEST, ""),
     ("<< $injury {{ D term = match:\"DIST radi\", type = fsn }}", LATEST, "radius radius2"),
     ("<< $injury {{ term = (\"carpal\" \"limb\") }}", LATEST, "injury limb carpal"),
+    ("<< $injury {{ term = (match:\"carp\" wild:\"*limb*\") }}", LATEST, "injury limb carpal"),
     ("<< $injury {{ term != \"fracture\" }}", LATEST, "injury"),
     ("<< $injury {{ term = wild:\"fracture of*radius*\" }}", LATEST, "radius radius2"),
     ("<< $injury {{ term = wild:\"*stal*\" }}", LATEST, "radius radius2"),
@@ -171,7 +172,6 @@ UNANSWERED = (
     ("LOINC#54486-6", "alternate identifiers"),
     ("^ [a, b] $set", "one field"),
     ("^ [*] $set", "one field"),
-    ("* : $unit = (match:\"a\" wild:\"b\")", "different ways"),
     ("^ $ctv3 {{ M mapTraget = \"X\" }}", "called mapTraget"),
     ("^ [mapTarget] 900000000000527005", "called mapTarget"),
     ("^ $never", "no members of the reference set"),
@@ -218,6 +218,7 @@ EXAMPLES = """
 < 64572001 |Disease| {{ term != "heart att" }}
 < 64572001 |Disease| {{ term = wild:"cardi*opathy" }}
 < 64572001 |Disease| {{ term = ("heart" "card") }}
+< 64572001 |Disease| {{ term = ( match:"gas" wild:"*itis" ) }}
 < 64572001 |Disease| {{ D term = match:"heart att", language = en }} {{ term = "card" }}
 < 56265001 {{ D language = es }}
 < 56265001 {{ D type = syn }} {{ D dialect = en-nhs-clinical (prefer) }}

@@ -37,8 +37,8 @@ def words_of(text: str) -> list[str]:
 
 def words_asked(wanted: s.Text) -> list[str]:
     """Of each of the texts the words that begin words of whatever fits it."""
-    found = WHOLE if wanted.how == s.WILD else WORD
-    return [" ".join(found.findall(folded(text))) for text in wanted.texts]
+    return [" ".join((WHOLE if how == s.WILD else WORD).findall(folded(text)))
+            for how, text in wanted.typed]
 
 
 def begins_all(wanted: str, text: str) -> bool:
@@ -65,11 +65,12 @@ def fits_pattern(pattern: str, text: str) -> bool:
     return text.endswith(last)
 
 
+FITS: dict[str, Callable[[str, str], bool]] = {
+    s.MATCH: begins_all, s.WILD: fits_pattern, s.EXACT: operator.eq}
+
+
 def fits_text(wanted: s.Text, text: str) -> bool:
-    if wanted.how == s.EXACT:
-        return text in wanted.texts
-    fits = fits_pattern if wanted.how == s.WILD else begins_all
-    return any(fits(one, text) for one in wanted.texts)
+    return any(FITS[how](one, text) for how, one in wanted.typed)
 
 
 def number_of(text: str) -> Decimal | None:
@@ -83,9 +84,10 @@ def fits_number(said: str, comparison: str, wanted: s.Number) -> bool:
 
 def fits_day(said: str, comparison: str, wanted: s.Text) -> bool:
     """Days are eight digits each, and are in the order of time."""
+    days = [day for _, day in wanted.typed]
     if comparison in (s.EQUAL, s.NOT_EQUAL):
-        return (said in wanted.texts) == (comparison == s.EQUAL)
-    return ORDERS[comparison](said, wanted.texts[0])
+        return (said in days) == (comparison == s.EQUAL)
+    return ORDERS[comparison](said, days[0])
 
 
 def fits_concrete(said: str, comparison: str, wanted: s.Number | s.Text | s.Truth) -> bool:

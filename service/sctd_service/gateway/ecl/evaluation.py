@@ -21,6 +21,7 @@ from . import filtering, refining
 from .fields import Fields
 from .syntax import Ids
 from .terminology import Terminology
+from ..store import TooManyTerms
 from ...snomed import (
     PARTIALLY_EQUIVALENT_TO, REPLACED_BY, SAME_AS, WAS_A, Description, is_id_of_concept)
 
@@ -190,8 +191,15 @@ class Evaluation:
         return await filtering.concepts(self.meant, rows, e.filters)
 
     async def descriptions(self, e: s.Filtered, among: Ids | None) -> Sequence[Description]:
-        """Descriptions of the focus: those that a search by words finds, or else all."""
-        found = None if are_few(among) else await filtering.with_words(self.store, e.filters)
+        """Descriptions of the focus: those that a search by words finds, or else all. (All that
+        there are would be too many, too.)"""
+        found = None
+        try:
+            if not are_few(among):
+                found = await filtering.with_words(self.store, e.filters)
+        except TooManyTerms:
+            if among is None and isinstance(e.focus, s.Wildcard):
+                raise
         if found is None:
             base = await self.meant(e.focus, among)
             with_inactive = filtering.asks_active(e.filters)

@@ -46,7 +46,7 @@ async def concepts(meant: Meant, rows: Sequence[Concept], filters: Sequence[s.Fi
 async def with_words(store: Terminology,
                      filters: Sequence[s.Filter]) -> Sequence[Description] | None:
     """Descriptions that were searched for, among which are all that fit. None where no filter has
-    words to search for, or they are too many."""
+    words to search for."""
     for one in filters:
         if one.name == TERM and one.comparison == s.EQUAL and isinstance(one.value, s.Text):
             asked = words_asked(one.value)

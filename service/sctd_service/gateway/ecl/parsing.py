@@ -251,10 +251,7 @@ class Builder(Transformer[Token, Any]):
         return how, re.sub(r"\\(.)", r"\1", found[-1][1:-1])
 
     def texts(self, *typed: tuple[str, str]) -> s.Text:
-        hows = {how for how, _ in typed}
-        if len(hows) != 1:
-            raise not_supported("texts that are compared in different ways aren't answered")
-        return s.Text(hows.pop(), tuple(text for _, text in typed))
+        return s.Text(typed)
 
 
 # A filter, with where its name stands; and what stands in a list, with its acceptabilities.
@@ -292,8 +289,9 @@ def is_of(form: str, one: s.Filter, others: dict[str, Token] | None) -> bool:
     """Whether a filter compares with what it may. (A field of a member has any form.)"""
     value, is_equality = one.value, one.comparison in (s.EQUAL, s.NOT_EQUAL)
     if form == DAYS:
-        return isinstance(value, s.Text) and value.how == s.MATCH and all(
-            map(is_day, value.texts)) and (is_equality or len(value.texts) == 1)
+        return isinstance(value, s.Text) and all(
+            how == s.MATCH and is_day(text) for how, text in value.typed) and (
+                is_equality or len(value.typed) == 1)
     if isinstance(value, s.Number) and not form:
         return True
     if not is_equality:

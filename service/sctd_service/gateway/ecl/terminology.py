@@ -11,7 +11,7 @@ from typing import NamedTuple, TypeVar
 from .. import limits, refsets
 from ..hub import Reply
 from ..problems import too_costly
-from ..store import FIRST, TooManyTerms, View, columns_of, ids, member_of, members_of, rows
+from ..store import FIRST, View, columns_of, ids, member_of, members_of, rows
 from ...snomed import (
     ASSOCIATIONS, IS_A, Association, Concept, Description, RefsetMember, Relationship,
     is_id_of_concept)
@@ -247,18 +247,14 @@ class Terminology:
                 for one in rows(Description, reply):
                     yield one
 
-    async def with_words(self, texts: Iterable[str]) -> list[Description] | None:
-        """The active descriptions of which a term has the words of one of the texts. None where
-        they are too many to be read."""
+    async def with_words(self, texts: Iterable[str]) -> list[Description]:
+        """The active descriptions of which a term has the words of one of the texts."""
         found = dict[str, Description]()
         for text in texts:
             self.must_have_room(1)
             # (What begins with a word begins with the beginning of that.)
             pages = self.view.with_words(text[: limits.FILTER_CHARACTERS], self.day)
-            try:
-                found |= {row.id: row async for page in pages for row in page.found}
-            except TooManyTerms:
-                return None
+            found |= {row.id: row async for page in pages for row in page.found}
         return [*found.values()]
 
     async def members_about(self, codes: Collection[str]) -> dict[str, list[RefsetMember]]:
