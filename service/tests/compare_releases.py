@@ -253,9 +253,10 @@ class Comparison:
         status, said = self.ask(
             "ValueSet/$expand", url=url, filter=text, offset=offset, count=count)
         where = (text, top, offset, count, snapshot.day)
+        is_many = status == 422 and len(rows) > limits.FILTER_TERMS
+        known = 422 if is_many else 200 if words_in(text) else 400
+        self.alike("status of a search", status, known, *where)
         if status != 200:
-            why = 400 if not words_in(text) else 422 if len(rows) > limits.FILTER_TERMS else 200
-            self.alike("search refused", status, why, *where)
             return
         contains = said["expansion"].get("contains", [])
         self.alike("search", [(one["code"], "inactive" not in one) for one in contains],

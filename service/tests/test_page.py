@@ -345,10 +345,10 @@ class TestPage(Asked):
     def test_pages_of_a_search(self, monkeypatch: pytest.MonkeyPatch) -> None:
         """As many concepts as a page has, and where there are more a link to the next ones."""
         monkeypatch.setattr(limits, "RESULT_CONCEPTS", 2)
-        codes = [str(sctid(9_000 + number, "00")) for number in range(5)]
+        codes = [str(sctid(9_000 + number, "00")) for number in range(6)]
         for first, said in (
                 (0, "These are concepts 1 to 2 that have"), (2, "These are concepts 3 to 4 that"),
-                (4, "These are concepts 5 to 5 that have"), (6, "No further concept has a term")):
+                (4, "These are concepts 5 to 6 that have"), (6, "No further concept has a term")):
             search = Search(Edition(EDITION), "some words", "20200101", "", first)
             text = asyncio.run(results(Named(codes), search)).content
             assert said in text, first
