@@ -120,7 +120,7 @@ OPENED = (
     Opened("no word", "", {}, ["Type a code"]),
     Opened("a search", "", {"q": "script HOSTILE"},
            ["1 concept has a term", "</textarea><script>"], is_walked=True),
-    Opened("a hostile search", "", {"q": "<img src=y onerror=alert(1)>"}, ["No concept has a term"]),
+    Opened("a hostile search", "", {"q": "<img src=y onerror=alert(1)>"}, ["No concept has"]),
     Opened("no changes yet", "changes", {}, ["Type a concept\u2019s code and two days"]),
     Opened("what changed", "changes", {"concept": "{finding}", "from": "2019-01-31"}, [
         "concepts changed", "Fracture of carpal bone (disorder)", "Parent withdrawn",

@@ -6,6 +6,7 @@ import random
 import subprocess
 import tempfile
 from collections import Counter
+from dataclasses import is_dataclass
 from pathlib import Path
 
 import pytest
@@ -32,8 +33,7 @@ ASKED = (*DAYS, "20200801", "20210101", "20211231", "20991231")
 AT_A_TIME = 25
 FEW_TERMS = 20
 SIZES = {"ASKED_UPWARDS": (0, 3, 40), "ASKED_ONE_BY_ONE": (0, 10, 1000),
-         "QUESTION_ROWS": (20, 100, 1000, 1000), "FIRST_TERMS": (2, 30, 200),
-         "FILTER_TERMS": (FEW_TERMS, 10_000)}
+         "QUESTION_ROWS": (20, 100, 1000, 1000), "FILTER_TERMS": (FEW_TERMS, 10_000)}
 NO_FIELD = "no reference set there has a field"
 # How many of each have to be among them.
 AT_LEAST = {"some": 1500, "none": 450}
@@ -108,10 +108,20 @@ async def one_compared(drawn: Drawn, pool: Pool, tree: s.Expression, day: str, p
     assert among in (None, wanted & some), (text, day, pin, some, among)
     if None in (found, among):
         # What is asked first decides whether such a part is asked at all.
-        assert files.asks_no_column(tree) or limits.FILTER_TERMS == FEW_TERMS, (text, day, pin)
+        is_many = limits.FILTER_TERMS == FEW_TERMS and asks_terms_of_all(tree)
+        assert is_many or files.asks_no_column(tree), (text, day, pin)
         counts["refused"] += 1
     else:
         counts["some" if wanted else "none"] += 1
+
+
+def asks_terms_of_all(tree: object) -> bool:
+    """Whether a part has a filter of the terms of any concept."""
+    if isinstance(tree, s.Filtered) and isinstance(tree.focus, s.Wildcard):
+        if "term" in [one.name for one in tree.filters]:
+            return True
+    parts = tree if isinstance(tree, tuple) else vars(tree).values() if is_dataclass(tree) else ()
+    return any(map(asks_terms_of_all, parts))
 
 
 async def answered(view: View, day: str, expression: s.Expression,

@@ -102,6 +102,17 @@ class TestLargeAnswers(Asked):
             status, said = self.expand("walk", filter="walk more", **words)
             assert (status, issue(said)) == (422, "too-costly"), words
 
+    def test_more_terms_than_an_expression(self) -> None:
+        """The descriptions of few concepts are asked for; of any concept it is refused."""
+        below = "<< %s" % self.codes["page"]
+        for focus, text, known in (
+                (below, "walk more", (200, 0)), (below, "page", (200, limits.PAGE_CONCEPTS + 1)),
+                ("*", "walk many", (200, limits.FILTER_TERMS)), ("*", "walk more", (422, None))):
+            url = "%s?fhir_vs=ecl/%s {{ term = \"%s\" }}" % (SCT, focus, text)
+            status, said = self.gateway.fhir("ValueSet/$expand", url=url, count=0)
+            assert (status, said.get("expansion", {}).get("total")) == known, (focus, text)
+        assert "terms have the words of" in said["issue"][0]["diagnostics"]
+
     def test_no_more_terms_are_read_than_a_page_needs(self) -> None:
         """So it isn't known how many there are."""
         for offset in (0, 1_500):

@@ -51,9 +51,10 @@ class Named(View):
     def __init__(self, codes: list[str]) -> None:
         self.codes, self.days, self.latest = codes, ["20200101"], "20200101"
 
-    async def with_words(self, text: str, day: str) -> AsyncIterator[Terms]:
+    async def with_words(self, text: str, day: str, wanted: int = 0) -> AsyncIterator[Terms]:
         row = ("1", day, "1", "1")
-        yield Terms([Description(*row, code, "en", SYNONYM, code, "1") for code in self.codes], True)
+        found = [Description(*row, code, "en", SYNONYM, code, "1") for code in self.codes]
+        yield Terms(found, True)
 
     async def concepts(self, codes: Sequence[str], day: str,
                        keep: bool = True) -> list[Concept | None]:
@@ -353,9 +354,9 @@ class TestPage(Asked):
             text = asyncio.run(results(Named(codes), search)).content
             assert said in text, first
             assert [code for code, _ in self.found(text)] == codes[first : first + 2]
-            link = re.search(r'<a href="\?([^"]*)">Next page</a>', text)
-            assert (link and link[1]) == (
-                "q=some+words&amp;date=2020-01-01&amp;first=%d" % (first + 2) if first < 3 else None)
+            links = re.findall(r'<a href="\?([^"]*)">Next page</a>', text)
+            more = "q=some+words&amp;date=2020-01-01&amp;first=%d" % (first + 2)
+            assert links == [more] * (first < 3)
         assert "These are concepts 2 to" in self.page(q="fracture", first="1")[1]
         for wrong in ("-1", "x", "\u0663", "123456"):
             assert self.page(q="fracture", first=wrong)[0] == 400, wrong

@@ -74,8 +74,8 @@ LANGUAGES = 8
 # Of questions.
 PAGE_CONCEPTS = 1_000
 WALK_CONCEPTS = 20_000
-# Terms of which a search by words reads the first so many at once, and of all at most so many.
-FIRST_TERMS = 200
+# Terms of which a search by words reads the first so many at least, and of all at most so many.
+FIRST_TERMS = 100
 FILTER_TERMS = 10_000
 FILTER_CHARACTERS = 200
 # Members of a reference set that are read for one expansion, and reference sets that are looked at

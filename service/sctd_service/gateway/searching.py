@@ -35,7 +35,7 @@ async def searched(view: View, text: str, day: str, languages: Collection[str], 
     words of the text: active ones first, and then those with the shortest terms. They are all, or
     else at least `most`."""
     active, inactive, told = list[Hit](), list[Hit](), set[str]()
-    async for rows, are_last in view.with_words(text, day):
+    async for rows, are_last in view.with_words(text, day, most):
         terms = dict[str, str]()
         for row in names_of(rows):
             if row.concept not in told and (not languages or row.language in languages):

@@ -295,12 +295,13 @@ class View:
         """All versions of the concept's own row, oldest first."""
         return rows(Concept, await self.told("HISTORY C %s" % code))
 
-    async def with_words(self, text: str, day: str) -> AsyncIterator[Terms]:
+    async def with_words(self, text: str, day: str, wanted: int = 0) -> AsyncIterator[Terms]:
         """Some at a time the active descriptions for which each word of the text begins a word of
-        the term, the shortest terms first: as many again each time as before."""
+        the term, the shortest terms first: as many again each time as before, and at first as many
+        as are wanted."""
         if not SEARCHED.match(text):
             raise ValueError("a text that can't be looked for")
-        start, end = 0, limits.FIRST_TERMS
+        start, end = 0, max(limits.FIRST_TERMS, min(wanted, limits.QUESTION_ROWS))
         while start < end:
             lines = ["WORDS %s - %d %d %s" % (day, at, min(limits.QUESTION_ROWS, end - at), text)
                      for at in range(start, end, limits.QUESTION_ROWS)]

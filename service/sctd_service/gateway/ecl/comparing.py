@@ -11,8 +11,8 @@ from typing import Any
 
 from . import syntax as s
 
-# Letters of Unicode that Python doesn't count as such; a word, which is a longest run of letters and
-# digits; and the words of a pattern that begin where a word of what fits it does.
+# Letters of Unicode that Python doesn't count as such; a word, which is a longest run of letters
+# and digits; and the words of a pattern that begin where a word of what fits it does.
 FURTHER = "\u24b6-\u24e9\U0001f130-\U0001f149\U0001f150-\U0001f169\U0001f170-\U0001f189"
 WORD = re.compile(r"(?:[^\W_]|[%s])+" % FURTHER)
 WHOLE = re.compile(r"(?<![\w*%s])%s" % (FURTHER, WORD.pattern))

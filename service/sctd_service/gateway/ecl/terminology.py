@@ -253,7 +253,8 @@ class Terminology:
         for text in texts:
             self.must_have_room(1)
             # (What begins with a word begins with the beginning of that.)
-            pages = self.view.with_words(text[: limits.FILTER_CHARACTERS], self.day)
+            text = text[: limits.FILTER_CHARACTERS]
+            pages = self.view.with_words(text, self.day, limits.QUESTION_ROWS)
             found |= {row.id: row async for page in pages for row in page.found}
         return [*found.values()]
 
