@@ -34,7 +34,7 @@ import sys
 import tempfile
 import threading
 from collections.abc import Iterable, Iterator
-from concurrent.futures import Future, ThreadPoolExecutor, as_completed
+from concurrent.futures import FIRST_COMPLETED, Future, ThreadPoolExecutor, wait
 from dataclasses import dataclass
 from importlib.machinery import SourceFileLoader
 from typing import Any
@@ -505,23 +505,28 @@ def fits(batch: Batch, edit: Edit) -> bool:
 
 
 def try_edits(trial: Trial, edits: list[Edit]) -> Iterator[Verdict]:
-    """Tries the edits of a crate, and says what each came to. What a check of many leaves unsettled
-    is tried alone as soon as that check has ended."""
+    """Tries the edits of a crate, and says what each came to as soon as its check has ended: first
+    many in one check, then those that need a whole one, and what the former left unsettled."""
     every = [(edit, trial.functions_of(edit)) for edit in edits]
     alone = [it for it in every if not it[1]]
     trial.find_controls()
     batches = batches_of([it for it in every if it[1]], trial.calls)
     print(f"{trial.name}: {len(edits)} edits, {len(batches)} checks, {len(alone)} alone", flush=True)
     pool = ThreadPoolExecutor(trial.checks.jobs)
+
+    def begun(one: Unsettled) -> Future[list[Verdict | Unsettled]]:
+        return pool.submit(lambda: [trial.try_alone(*one)])
+
     try:
-        singly = [pool.submit(trial.try_alone, *it) for it in alone]
-        many = [pool.submit(lambda it: list(trial.try_batch(it)), it) for it in batches]
-        for found in (it for check in as_completed(many) for it in check.result()):
-            if isinstance(found, Verdict):
-                yield found
-            else:
-                singly.append(pool.submit(trial.try_alone, *found))
-        yield from (check.result() for check in as_completed(singly))
+        going = {pool.submit(lambda it: list(trial.try_batch(it)), it) for it in batches}
+        going |= set(map(begun, alone))
+        while going:
+            done, going = wait(going, return_when=FIRST_COMPLETED)
+            for found in (it for check in done for it in check.result()):
+                if isinstance(found, Verdict):
+                    yield found
+                else:
+                    going.add(begun(found))
     finally:
         pool.shutdown(cancel_futures=True)
 
