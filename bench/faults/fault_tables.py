@@ -16,13 +16,17 @@ class Fault(NamedTuple):
     old: str
     new: str
 
-    def put_in(self, top: Path, new: str) -> None:
-        """Puts a text in the place of the old one, which has to stand just once in its file."""
-        path = top / self.file
-        text = path.read_text("utf-8")
+    def text_in(self, top: Path) -> str:
+        """The text of its file, in which the old one has to stand just once."""
+        text = (top / self.file).read_text("utf-8")
         if text.count(self.old) != 1:
             raise ValueError(f"{self.file} has the text {text.count(self.old)} times")
-        path.write_text(text.replace(self.old, new), encoding="utf-8")
+        return text
+
+    def put_in(self, top: Path, new: str) -> None:
+        """Puts a text in the place of the old one."""
+        text = self.text_in(top).replace(self.old, new)
+        (top / self.file).write_text(text, encoding="utf-8")
 
 
 def faults_in(path: Path) -> Iterator[Fault]:

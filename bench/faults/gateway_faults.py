@@ -6,7 +6,8 @@ gateway_faults.py --table
 Each fault of the files in TABLES is a text of a file that is exchanged, and the tests that are run
 with it: TESTS, such as `test_hub`, stands for all faults that are tried with these. One that no
 test fails for is said to be NOT SEEN, and the status is 1 then. With --table it prints the row that
-bench/README.md has of it, and tries nothing.
+bench/README.md has of it, and tries nothing; the status is 1 where a fault's text doesn't stand
+just once in its file.
 """
 
 import argparse
@@ -27,6 +28,8 @@ from try_program import run_script  # noqa: E402
 
 # The browser's trial, and what makes all others.
 PAGE, BY_PYTEST = "try_page.py", "trials/by_pytest.py"
+# Where the files of faults are.
+GATEWAY = Path("service", "sctd_service", "gateway")
 # How much of what they print is looked at.
 LINES = 1_000
 TABLES = ("gateway_faults.txt", "page_faults.txt", "expression_faults.txt", "hub_faults.txt")
@@ -54,13 +57,24 @@ def is_seen(number: int, program: Path) -> bool:
             shutil.copytree(TOP / name, Path(folder, name),
                             ignore=shutil.ignore_patterns("__pycache__"))
         try:
-            fault.put_in(Path(folder, "service", "sctd_service", "gateway"), fault.new)
+            fault.put_in(Path(folder, GATEWAY), fault.new)
         except ValueError as why:
             print("%d: %s: NO FAULT: %s" % (number, fault.fault, why))
             return False
         found = failed(Path(folder, "bench"), program, fault.tests)
     print("%d: %s: %s" % (number, fault.fault, "; ".join(found) or "NOT SEEN"), flush=True)
     return bool(found)
+
+
+def misfits() -> list[str]:
+    """The faults that can't be put in any more, and why."""
+    found: list[str] = []
+    for fault in FAULTS:
+        try:
+            fault.text_in(TOP / GATEWAY)
+        except ValueError as why:
+            found.append("%s: NO FAULT: %s" % (fault.fault, why))
+    return found
 
 
 def files_of(fault: Fault) -> list[str]:
@@ -88,7 +102,9 @@ def main() -> int:
     if asked.table or asked.program is None:
         counts = Counter(test for fault in FAULTS for test in files_of(fault))
         print_row("gateway_faults.py PROGRAM [NAME]", "of gateway, page and hub", counts)
-        return 0
+        misfitting = misfits()
+        print(*misfitting, sep="\n", end="", file=sys.stderr)
+        return bool(misfitting)
     return tell(lambda: tried(asked.program.resolve(), asked.chosen))
 
 

@@ -124,6 +124,20 @@ def test_what_arrives(place: Place, store: Path) -> None:
     assert arrived.count("1 UNPIN") == 1
 
 
+def test_days_to_come(hub: Hub) -> None:
+    """A question about such a day is answered, and logged once a client."""
+    client, other = hub.asker(), hub.client()
+    for line in ("GET C 1000004 20200131", "GET C 20991231 20200131", "TERMS 20200131 1 20991231",
+                 "PAGE C 20200131 20991231 1", "AT 1 DATES", "RECEIPT 1", "GET C 1000004 209912311"):
+        client.ask(line)
+    assert hub.logged() == []
+    for line in ("AT 1 DELTA C 20200131 20991231 - 1", "GET C 1000004 20991230"):
+        assert client.ask(line)[-1].startswith("END ")
+    other.ask("CHILDREN 1000004 20991230\r")
+    assert hub.logged() == [f"user {os.getuid()} asks about {day}, which is yet to come"
+                            for day in ("20991231", "20991230")]
+
+
 def test_pins_apart(hub: Hub) -> None:
     """No client can touch the pin of another one, on whichever sockets they are."""
     clients = [hub.asker(), hub.asker(), hub.client(), hub.client()]

@@ -14,7 +14,7 @@ from ..logs import log, tell
 from .checking import without_notes
 from .digests import Digests
 from .lines import (
-    LINE_LIMIT, NOT_A_QUESTION, QUESTION, TOO_LONG, Lines, Sort, pin_after, without_cr)
+    LINE_LIMIT, NOT_A_QUESTION, QUESTION, TOO_LONG, Lines, Sort, date_in, pin_after, without_cr)
 from .program import Program, ProgramEndedError
 from .store import Store
 
@@ -58,7 +58,7 @@ class Client(asyncio.Protocol):
         self.waits, self.is_busy, self.has_unread = False, False, False
         # Whether it isn't read for now, since it has sent many lines, and whether it is told notes.
         self.is_held, self.is_at_end, self.is_gone, self.watches = False, False, False, False
-        self.has_notes = False
+        self.has_notes, self.asks_ahead = False, False
         self.heard, self.before_line = time.monotonic(), b""
 
     def connection_made(self, transport: asyncio.BaseTransport) -> None:
@@ -133,9 +133,18 @@ class Client(asyncio.Protocol):
         lines, before, found = self.lines, self.before_line, list[bytes]()
         most = min(room, LINES_A_CLIENT - self.flying)
         while lines and lines[0][0] is QUESTION and len(found) < most:
-            found.append(before + lines.popleft()[1] + b"\n")
+            line = lines.popleft()[1]
+            if not self.asks_ahead and date_in(line) > self.hub.today:
+                self.note_date(date_in(line))
+            found.append(before + line + b"\n")
         self.flying += len(found)
         return found
+
+    def note_date(self, date: bytes) -> None:
+        """Logs that it asks about a day to come: the same question may be answered otherwise later.
+        """
+        self.asks_ahead = True
+        log("%s asks about %s, which is yet to come" % (self.user, date.decode()))
 
     def answered(self, line: bytes, reply: bytes) -> bool:
         """Takes the reply; whether it is that to the last line on its way."""
@@ -244,6 +253,10 @@ class Client(asyncio.Protocol):
         return not works and time.monotonic() - self.heard > seconds
 
 
+def day_now() -> bytes:
+    return time.strftime("%Y%m%d", time.gmtime()).encode()
+
+
 def with_words(line: bytes, reply: bytes, words: bytes) -> bytes:
     """A reply of a store with troubles: that to STATUS says so."""
     is_status = without_cr(line[:-1]).endswith(b" STATUS")
@@ -267,6 +280,8 @@ class Hub:
         self.watchers: dict[Client, None] = {}
         # The reply to METRICS, and when it was made.
         self.metrics, self.metrics_made = b"", -METRICS_SECONDS
+        # The day that it is, by UTC, as questions have dates.
+        self.today = day_now()
         self.tasks: set["asyncio.Task[None]"] = set()
         self.ended: "asyncio.Future[int]" = self.loop.create_future()
         store.on_import = self.tell_watchers
@@ -389,6 +404,7 @@ class Hub:
                 log("the store's file was replaced: the hub ends")
                 return self.end(1)
             self.digests.end_left()
+            self.today = day_now()
             is_full = len(self.free) <= KEPT_SESSIONS + FEW_SESSIONS
             seconds = IDLE_SECONDS_IF_FULL if is_full else IDLE_SECONDS
             for client in list(self.clients):
