@@ -10,6 +10,7 @@ pub mod Words
 pub mod Hosts
 pub mod NamedDisks
 pub mod Tasks
+pub mod Verifying
 pub mod Merging
 pub mod Copies
 pub mod Runs

@@ -21,6 +21,8 @@ pub enum Ending {
     Done,
     /// It was refused; the last line of its output says so.
     Refused(LineRefusal),
+    /// The store and a package's Snapshot differ; the last line of the output says so.
+    Differs,
 }
 
 /// How a task ended, its disk, if it has one, and the disk that was made for a copy, if there is
@@ -41,7 +43,7 @@ pub(crate) fn finish<O: Write, E: Write>(
     match ended {
         Err(fault) => fail(fault, faults),
         Ok(_) if flushed.is_err() => fail(ServeFault::Write, faults),
-        Ok(Ending::Refused(_)) => 1,
+        Ok(Ending::Refused(_) | Ending::Differs) => 1,
         Ok(Ending::Done) => 0,
     }
 }

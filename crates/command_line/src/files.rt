@@ -8,7 +8,9 @@ use crate::progress::{Progress, tell_later};
 use disk_model::{FileDisk, OpenFault, sync_folder_of};
 use import_check::{Release, Scope};
 use line_server::SourceFault;
-use release_folder::{FolderFault, read_release};
+use release_folder::{
+    FolderFault, FolderReadFault, SnapshotFile, read_part, read_release, snapshot_files,
+};
 use shown_names::Shown;
 use std::alloc::Global;
 use std::fs::{self, File, Files, OpenOptions};
@@ -135,13 +137,35 @@ impl<'a, R: Files<File = File> + AllocGlobal + Clone + Drop> Host for FileHost<'
                 tell_later(later, quiet, faults);
                 Ok(release)
             }
-            Err(fault) => match fault.fault() {
-                FolderFault::OutOfMemory => Err(SourceFault::OutOfMemory),
-                FolderFault::NoFolder => {
-                    let _ = writeln!(faults, "sctd: {fault}");
-                    Err(SourceFault::NoFolder)
-                }
-            },
+            Err(fault) => Err(told(&fault, faults)),
+        }
+    }
+
+    fn snapshot<E: Write>(
+        &self,
+        alloc: Global,
+        folder: &str,
+        name: &str,
+        scope: Scope,
+        faults: &mut E,
+    ) -> Result<Vec<SnapshotFile>, SourceFault> {
+        match snapshot_files(self.rt, alloc, folder, name, scope) {
+            Ok(files) => Ok(files),
+            Err(fault) => Err(told(&fault, faults)),
+        }
+    }
+
+    fn part<E: Write>(
+        &self,
+        alloc: Global,
+        file: &SnapshotFile,
+        from: u64,
+        most: u64,
+        faults: &mut E,
+    ) -> Result<Vec<u8>, SourceFault> {
+        match read_part(self.rt, alloc, file, from, most) {
+            Ok(bytes) => Ok(bytes),
+            Err(fault) => Err(told(&fault, faults)),
         }
     }
 
@@ -156,6 +180,17 @@ impl<'a, R: Files<File = File> + AllocGlobal + Clone + Drop> Host for FileHost<'
         match fs::metadata(self.rt, name) {
             Ok(metadata) => Some(metadata.len()),
             Err(_) => None,
+        }
+    }
+}
+
+/// Writes why a folder can't be read, unless memory ran out.
+fn told<E: Write>(fault: &FolderReadFault, faults: &mut E) -> SourceFault {
+    match fault.fault() {
+        FolderFault::OutOfMemory => SourceFault::OutOfMemory,
+        FolderFault::NoFolder => {
+            let _ = writeln!(faults, "sctd: {fault}");
+            SourceFault::NoFolder
         }
     }
 }

@@ -9,6 +9,7 @@ ghost use Rattle.command_line.specs.declared.host.Mode.TheVariants.{Open};
 use disk_model::Disk;
 use import_check::{Release, Scope};
 use line_server::SourceFault;
+use release_folder::SnapshotFile;
 use std::alloc::Global;
 use std::io::{self, Write};
 
@@ -84,6 +85,26 @@ pub trait Host {
     ) -> Result<Release, SourceFault>
         ensures { (view self.now).is_honest
             → IsGiven result ((view self.now).releases folder.now scope name.now) };
+
+    /// The Snapshot files of the package in a folder below another one, that the scope includes.
+    fn snapshot<E: Write>(
+        &self,
+        alloc: Global,
+        folder: &str,
+        name: &str,
+        scope: Scope,
+        faults: &mut E,
+    ) -> Result<Vec<SnapshotFile>, SourceFault>;
+
+    /// Reads the bytes of one of these files from one on, at most so many; fewer only at its end.
+    fn part<E: Write>(
+        &self,
+        alloc: Global,
+        file: &SnapshotFile,
+        from: u64,
+        most: u64,
+        faults: &mut E,
+    ) -> Result<Vec<u8>, SourceFault>;
 
     /// The system error of the last call on the disk that failed, if one has failed.
     fn last_error(&self, disk: &Self::Disk) -> Option<io::Error>;

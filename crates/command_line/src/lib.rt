@@ -20,12 +20,15 @@ mod inspecting;
 mod making;
 mod merging;
 mod named_disk;
+mod package_rows;
 mod paths;
 mod progress;
 mod running;
 mod serving;
+mod store_at;
 mod telling;
 mod told_lines;
+mod verifying;
 mod warning;
 mod words;
 

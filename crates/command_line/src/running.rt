@@ -26,6 +26,7 @@ use crate::merging::merge;
 use crate::serving::{serve_all, serve_new};
 use crate::telling::{Context, tell_figures, tell_why};
 use crate::told_lines::ToldLines;
+use crate::verifying::{Asked, verify};
 use crate::words::{Action, Refused, Task, Work, task_of};
 use directory::Layout;
 use disk_model::MemDisk;
@@ -333,6 +334,18 @@ fn do_work<'a, H: Host, I: Read, O: Write, E: Write>(
         }
         Work::Merge { segments } => merge(alloc, path, *segments, store, output, faults),
         Work::Digest { imports } => digest(alloc, *imports, store, output),
+        Work::Verify {
+            releases,
+            name,
+            list,
+        } => {
+            let asked = Asked {
+                releases: *releases,
+                name: *name,
+                list: *list,
+            };
+            verify(host, alloc, asked, store, output, faults)
+        }
     }
 }
 

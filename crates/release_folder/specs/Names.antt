@@ -13,6 +13,7 @@ use Rattle.import_check.specs.declared.scope.Scope.TheVariants as scopes
 use Rattle.rf2_values.specs.declared.row.Kind.{Kind}
 use Rattle.rf2_values.specs.declared.row.Kind.TheVariants as kind
 use Rattle.release_folder.specs.declared.part.Part.{Part}
+use Rattle.release_folder.specs.declared.snapshot.SnapshotFile.{SnapshotFile}
 
 -- a letter for a column of a reference set: `c` for a component, `i` for an integer, `s` for a
 -- string
@@ -43,13 +44,25 @@ Begins scopes.Whole kind.Description name =
     OccursAt name (codes "sct2_Description_") 0 ⊎ OccursAt name (codes "sct2_TextDefinition_") 0
 Begins scopes.Whole kind.Member name = IsMemberName name
 
--- the name of a release file of this kind: it belongs to a Delta or a Full release, and to a text
--- file
-pub record IsTaken (scope : Scope) (kind : Kind) (name : List ℕ) : Type 0 where
+-- the name of a text file with rows of this kind
+pub record IsNamed (scope : Scope) (kind : Kind) (name : List ℕ) : Type 0 where
   pub begins : Begins scope kind name
-  pub holds : Contains name (codes "Delta") ⊎ Contains name (codes "Full")
   pub ends : (length (codes ".txt") ≤ length name)
       × OccursAt name (codes ".txt") (length name - length (codes ".txt"))
+
+-- the name of a release file of this kind, which belongs to a Delta or a Full release
+pub record IsTaken (scope : Scope) (kind : Kind) (name : List ℕ) : Type 0 where
+  pub named : IsNamed scope kind name
+  pub holds : Contains name (codes "Delta") ⊎ Contains name (codes "Full")
+
+-- the name of a file of this kind that belongs to a Snapshot
+pub record IsSnapshotFile (scope : Scope) (kind : Kind) (name : List ℕ) : Type 0 where
+  pub named : IsNamed scope kind name
+  pub holds : Contains name (codes "Snapshot")
+
+-- a file of a Snapshot, judged by its name, of the kind that its name says
+abbrev pub IsOfSnapshot : Scope → SnapshotFile → Type 0
+IsOfSnapshot scope file = IsSnapshotFile scope file.kind (string_bytes file.name)
 
 -- a file of concepts of a Full release, judged by its kind and its name
 pub record IsFullOfConcepts (file : ReleaseFile) : Type 0 where
