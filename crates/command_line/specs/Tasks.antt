@@ -65,12 +65,11 @@ pub record IsOnlyRead {D : Type 0} (view : D → DiskView) (old new : D) : Type 
   pub honesty : (view old).is_honest ↔ (view new).is_honest
   pub failures : (view old).failures ≤ (view new).failures
 
--- the line that checks the release was answered, and afterwards the disk was only read
-abbrev pub IsCheckTold : {D : Type 0} → SourceView → (D → DiskView) → List ℕ → StoreValue D → D
+-- the line that imports or checks a release was answered, and afterwards the disk was only read
+abbrev pub IsReleaseTold : {D : Type 0} → SourceView → (D → DiskView) → List ℕ → StoreValue D → D
     → Report → Type 0
-IsCheckTold {D} source view name store left report =
-    (mid : D) × IsLineTold source view (check_line name) store mid report
-    × IsOnlyRead view mid left
+IsReleaseTold {D} source view line store left report =
+    (mid : D) × IsLineTold source view line store mid report × IsOnlyRead view mid left
 
 -- the status was written, and the disk is unchanged
 abbrev pub IsStatusTold : {D : Type 0} → StoreValue D → D → Report → Type 0
@@ -111,9 +110,9 @@ pub record IsInputServed {D : Type 0} (held : Held) (source : SourceView) (view 
 abbrev pub IsWorkTold : {D : Type 0} → HostView D → (D → DiskView) → Work → StoreValue D → D
     → Report → Type 0
 IsWorkTold host view (works.Import folder name quiet) store left report =
-    IsLineTold (source_in host folder.now) view (import_line name.now) store left report
+    IsReleaseTold (source_in host folder.now) view (import_line name.now) store left report
 IsWorkTold host view (works.Check folder name quiet) store left report =
-    IsCheckTold (source_in host folder.now) view name.now store left report
+    IsReleaseTold (source_in host folder.now) view (check_line name.now) store left report
 IsWorkTold host view works.Status store left report = IsStatusTold store left report
 IsWorkTold host view (works.Merge segments) store left report =
     IsMergeTold view segments store left report

@@ -1,5 +1,6 @@
 //! The real files and folders.
 
+use crate::calendar::day_after_first;
 use crate::file_names::{FileName, name_disk, name_made, remove_made};
 use crate::holders::holder_of;
 use crate::host::{Host, Mode};
@@ -16,6 +17,7 @@ use std::alloc::Global;
 use std::fs::{self, File, Files, OpenOptions};
 use std::io::{self, Write};
 use std::os::unix::fs::OpenOptionsExt;
+use std::time::Clock;
 
 /// The real files and folders. Which of them exist isn't specified.
 #[derive(Clone, Copy)]
@@ -34,7 +36,7 @@ impl<'a, R: Files<File = File> + AllocGlobal> FileHost<'a, R> {
 type NamedFile<'a, R> = NamedDisk<FileDisk, FileName<'a, R>>;
 
 // promise: a_command_does_what_its_words_say
-impl<'a, R: Files<File = File> + AllocGlobal + Clone + Drop> Host for FileHost<'a, R> {
+impl<'a, R: Files<File = File> + Clock + AllocGlobal + Clone + Drop> Host for FileHost<'a, R> {
     ghost use Rattle.command_line.specs.Hosts.{unspecified};
 
     type Disk = NamedFile<'a, R>;
@@ -182,6 +184,12 @@ impl<'a, R: Files<File = File> + AllocGlobal + Clone + Drop> Host for FileHost<'
             Err(_) => None,
         }
     }
+
+    /// The day in UTC, by the system's clock.
+    fn today(&self) -> Option<u32> {
+        let now = self.rt.since_1970().ok()?;
+        day_after_first(now.as_secs() / SECONDS_OF_DAY)
+    }
 }
 
 /// Writes why a folder can't be read, unless memory ran out.
@@ -194,6 +202,9 @@ fn told<E: Write>(fault: &FolderReadFault, faults: &mut E) -> SourceFault {
         }
     }
 }
+
+/// How many seconds a day has.
+const SECONDS_OF_DAY: u64 = 86_400;
 
 /// The permissions of a file that only its owner may read and write.
 const OWNER_ALONE: u32 = 0o600;

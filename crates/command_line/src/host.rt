@@ -111,4 +111,7 @@ pub trait Host {
 
     /// The length of the file with this name, in bytes, if it can be read.
     fn size(&self, name: &str) -> Option<u64>;
+
+    /// The day that it is, as a number of eight digits, if that is known. Only warnings rest on it.
+    fn today(&self) -> Option<u32>;
 }

@@ -11,15 +11,14 @@ ghost use Rattle.command_line.specs.Runs.{mode_of, IsDemonstrated, IsDemonstrati
 ghost use Rattle.command_line.specs.Runs.{IsRun, IsNoTask, IsExplained};
 ghost use Rattle.command_line.specs.Private.{IsAtRest};
 
-use crate::answering::answer_read;
 use crate::check_source::CheckSource;
-use crate::checking::check;
 use crate::copying::copy_to;
 use crate::demonstration::{SCRIPT, Samples};
 use crate::digesting::digest;
 use crate::endings::{Ending, Performed, fail, finish, refuse, tell_refusal};
 use crate::folder_source::FolderSource;
 use crate::host::{Host, Mode};
+use crate::importing::{check, import};
 use crate::inspecting::{figures_of, tell_status};
 use crate::making::init;
 use crate::merging::merge;
@@ -31,7 +30,6 @@ use crate::words::{Action, Refused, Task, Work, task_of};
 use directory::Layout;
 use disk_model::MemDisk;
 use history_store::{Refusal, Store, Words};
-use line_commands::import_request;
 use line_server::{Held, LineRefusal, ServeFault};
 use std::alloc::Global;
 use std::io::{Read, Write};
@@ -298,7 +296,7 @@ fn do_work<'a, H: Host, I: Read, O: Write, E: Write>(
             quiet,
         } => {
             let mut source = FolderSource::new(host, *releases, faults, "importing", *quiet);
-            answer_read(alloc, &import_request(*name), &mut source, store, output)
+            import(alloc, *name, &mut source, store, output)
         }
         Work::Check {
             releases,

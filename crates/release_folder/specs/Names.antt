@@ -1,5 +1,5 @@
 -- Which files of a folder are release files, by their names.
-use Rattle.std.specs.Prelude.{◌≡◌, ◌⊎◌, ◌≤◌, ◌-◌, ◌≢◌, ◌++◌, ℕ, Bool, List, All, Any, length, take, drop, codes, string_bytes}
+use Rattle.std.specs.Prelude.{◌≡◌, ◌⊎◌, ◌≤◌, ◌-◌, ◌++◌, ℕ, Bool, List, All, Any, length, take, drop, codes, string_bytes}
 use Rattle.std.specs.List.{AllZip}
 use Rattle.std.specs.List.Sorted.{IsPermutation, IsSortedBy}
 use Rattle.std.specs.Ordering.{is_lt}
@@ -64,15 +64,19 @@ pub record IsSnapshotFile (scope : Scope) (kind : Kind) (name : List ℕ) : Type
 abbrev pub IsOfSnapshot : Scope → SnapshotFile → Type 0
 IsOfSnapshot scope file = IsSnapshotFile scope file.kind (string_bytes file.name)
 
--- a file of concepts of a Full release, judged by its kind and its name
-pub record IsFullOfConcepts (file : ReleaseFile) : Type 0 where
+-- a file of concepts with this mark in its name, such as `Full`
+pub record IsOfConcepts (mark : List ℕ) (file : ReleaseFile) : Type 0 where
   pub of_concepts : file.kind ≡ kind.Concept
-  pub full : Contains (string_bytes file.name) (codes "Full")
+  pub marked : Contains (string_bytes file.name) mark
 
--- a release has a Full file of concepts and no file of this kind
-pub record Lacks (files : List ReleaseFile) (missing : Kind) : Type 0 where
-  pub concepts : Any IsFullOfConcepts files
-  pub none : All (λ file. file.kind ≢ missing) files
+-- the name of a file begins so
+abbrev pub BeginsSo : List ℕ → ReleaseFile → Type 0
+BeginsSo beginning file = OccursAt (string_bytes file.name) beginning 0
+
+-- a release has a file of concepts with this mark, and no file whose name begins so
+pub record Lacks (files : List ReleaseFile) (mark beginning : List ℕ) : Type 0 where
+  pub concepts : Any (IsOfConcepts mark) files
+  pub none : All (λ file. BeginsSo beginning file → ⊥) files
 
 -- a release file, judged by its name, of the kind that its name says, and with a length of 32 bits
 -- at most
