@@ -31,8 +31,8 @@ mod serving;
 mod store_at;
 mod telling;
 mod told_lines;
-mod verifying;
 mod usual;
+mod verifying;
 mod warning;
 mod words;
 
