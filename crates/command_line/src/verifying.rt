@@ -8,7 +8,7 @@ use crate::store_at::StoreAt;
 use crate::telling::meaning;
 use disk_model::Disk;
 use history_store::{Refusal, Store};
-use line_server::{LineRefusal, ServeFault, SourceFault, scope_for};
+use line_server::{LineRefusal, ServeFault, SourceFault};
 use release_folder::SnapshotFile;
 use rf2_rows::{EffectiveTime, Row};
 use shown_names::Shown;
@@ -34,7 +34,7 @@ pub(crate) fn verify<D: Disk + Drop, H: Host, O: Write, E: Write>(
     output: &mut O,
     faults: &mut E,
 ) -> Result<Ending, ServeFault> {
-    let scope = scope_for(store);
+    let scope = store.scope();
     let files = match host.snapshot(alloc, asked.releases, asked.name, scope, faults) {
         Ok(files) => files,
         Err(SourceFault::OutOfMemory) => return refuse(alloc, output, Refusal::OutOfMemory),
