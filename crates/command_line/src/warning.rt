@@ -1,6 +1,6 @@
 //! Warnings about a release that was checked.
 
-ghost use Rattle.command_line.specs.Tasks.{IsOnlyRead};
+ghost use Rattle.command_line.specs.OnlyRead.{IsOnlyRead};
 
 use disk_model::Disk;
 use history_store::{Refusal, Store};
