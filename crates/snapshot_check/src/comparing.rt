@@ -146,10 +146,12 @@ pub fn compare<P: Package, S: Shown>(
 ) -> Result<Differences, CompareFault>
     requires none_given { P.given packaged.old ≡ [] }
     requires in_order { IsAscending row_cmp (S.at_date shown.old).rows }
+    // promise: a_snapshot_is_compared_component_by_component
     ensures found { S.is_honest shown.old → IfOk result
         (AreDifferences Exactly (P.given packaged.new) (S.at_date shown.old) limit) }
     // Whatever rows are returned: those that are missing are, and each other row that is told was
     // returned for one that is shown.
+    // promise: a_snapshot_is_compared_component_by_component
     ensures possible { IfOk result
         (AreDifferences (S.reads shown.old) (P.given packaged.new) (S.at_date shown.old) limit) }
     ensures stays { OnOk result (S.stays shown.old shown.new) }
