@@ -3,7 +3,6 @@
 ghost use Rattle.std.specs.Prelude.{◌≡◌, MatchResult};
 ghost use Rattle.history_store.specs.Answers.{IsReady};
 ghost use Rattle.snapshot_check.specs.declared.fault.CompareFault.TheVariants as comparefault;
-ghost use Rattle.line_server.specs.declared.refusal.LineRefusal.TheVariants.{Store};
 ghost use Rattle.command_line.specs.Endings.{report};
 ghost use Rattle.command_line.specs.OnlyRead.{IsOnlyRead};
 ghost use Rattle.command_line.specs.Verifying.{IsVerifyTold, IsComparison, IsNotCompared};
@@ -17,9 +16,8 @@ use crate::store_at::StoreAt;
 use crate::telling::meaning;
 use crate::telling_differences::tell_found;
 use disk_model::Disk;
-use fault_counts::ReadFault;
 use history_store::{Refusal, Store};
-use line_server::{LineRefusal, ServeFault, SourceFault};
+use line_server::{LineRefusal, ServeFault};
 use release_folder::SnapshotFile;
 use rf2_rows::EffectiveTime;
 use shown_names::Shown;
@@ -52,7 +50,7 @@ pub(crate) fn verify<D: Disk, H: Host, O: Write, E: Write>(
     let scope = store.scope();
     let files = match host.snapshot(alloc, asked.releases, asked.name, scope, faults) {
         Ok(files) => files,
-        Err(fault) => return tell_refusal(alloc, output, refusal_of_folder(fault)),
+        Err(fault) => return tell_refusal(alloc, output, LineRefusal::from(fault)),
     };
     let Some(date) = day_of(&files) else {
         tell_no_day(asked.name, faults);
@@ -90,14 +88,6 @@ fn compare_at<D: Disk, H: Host, E: Write>(
     }
 }
 
-/// Why a package's folder isn't read, as a refusal.
-fn refusal_of_folder(fault: SourceFault) -> LineRefusal {
-    match fault {
-        SourceFault::OutOfMemory => LineRefusal::Store(Refusal::OutOfMemory),
-        SourceFault::NoFolder => LineRefusal::NoFolder,
-    }
-}
-
 /// The fault of a comparison, as a refusal.
 fn refusal_of(fault: CompareFault) -> LineRefusal
     ensures { result ≡ refusal_for fault }
@@ -105,7 +95,7 @@ fn refusal_of(fault: CompareFault) -> LineRefusal
     match fault {
         CompareFault::OutOfMemory => LineRefusal::Store(Refusal::OutOfMemory),
         CompareFault::Package(fault) => refusal_of_package(fault),
-        CompareFault::Shown(fault) => LineRefusal::Store(refusal_of_read(fault)),
+        CompareFault::Shown(fault) => LineRefusal::Store(Refusal::from(fault)),
     }
 }
 
@@ -119,17 +109,6 @@ fn refusal_of_package(fault: PackageFault) -> LineRefusal
         PackageFault::Row { file, line, fault } => {
             LineRefusal::Store(Refusal::Line { file, line, fault })
         }
-    }
-}
-
-/// Why a row of a store can't be read, as a refusal.
-fn refusal_of_read(fault: ReadFault) -> Refusal
-    ensures { Store result ≡ refusal_for (comparefault.Shown fault) }
-{
-    match fault {
-        ReadFault::OutOfMemory => Refusal::OutOfMemory,
-        ReadFault::DiskFault => Refusal::DiskFault,
-        ReadFault::Damaged => Refusal::Damaged,
     }
 }
 

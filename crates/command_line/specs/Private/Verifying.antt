@@ -13,6 +13,7 @@ use Rattle.question_model.specs.Questions.{RowQuestion}
 use Rattle.history_model.specs.History.{rows_at}
 use Rattle.history_store.specs.declared.refusal.Refusal.{Refusal}
 use Rattle.history_store.specs.declared.refusal.Refusal.TheVariants as store_refusals
+use Rattle.history_store.specs.Refusals.{of_read}
 use Rattle.history_store.specs.StoreValue.{StoreValue}
 use Rattle.history_store.specs.Stored.{IsStored}
 use Rattle.snapshot_check.specs.declared.fault.PackageFault.TheVariants as packagefault
@@ -73,9 +74,7 @@ refusal_for (comparefault.Package packagefault.OutOfMemory) = Store store_refusa
 refusal_for (comparefault.Package packagefault.NoFolder) = NoFolder
 refusal_for (comparefault.Package (packagefault.Row file number fault)) =
     Store (store_refusals.Line file number fault)
-refusal_for (comparefault.Shown readfault.OutOfMemory) = Store store_refusals.OutOfMemory
-refusal_for (comparefault.Shown readfault.DiskFault) = Store store_refusals.DiskFault
-refusal_for (comparefault.Shown readfault.Damaged) = Store store_refusals.Damaged
+refusal_for (comparefault.Shown fault) = Store (of_read fault)
 
 -- this was told, or that memory ran out
 abbrev pub IsToldOr : (Report → Type 0) → Report → Type 0
