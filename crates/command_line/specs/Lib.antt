@@ -9,8 +9,9 @@ pub mod Paths
 pub mod Words
 pub mod Hosts
 pub mod NamedDisks
-pub mod Tasks
+pub mod OnlyRead
 pub mod Verifying
+pub mod Tasks
 pub mod Merging
 pub mod Copies
 pub mod Runs

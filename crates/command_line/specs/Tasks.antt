@@ -1,5 +1,5 @@
 -- What is done with a store.
-use Rattle.std.specs.Prelude.{◌≡◌, ◌↔◌, ◌≤◌, ℕ, List, [], ◌++◌, codes, decimal, Option, Some, None}
+use Rattle.std.specs.Prelude.{◌≡◌, ℕ, List, [], ◌++◌, codes, decimal, Option, Some, None}
 use Rattle.std.specs.Prelude.{Bool, true, false, Result, Ok, Err, IfOk}
 use Rattle.directory.specs.declared.layout.Layout.{Layout}
 use Rattle.directory.specs.declared.layout.Layout.TheVariants as layouts
@@ -28,7 +28,9 @@ use Rattle.command_line.specs.declared.words.Work.{Work}
 use Rattle.command_line.specs.declared.words.Work.TheVariants as works
 use Rattle.command_line.specs.Endings.{Report, report, Tells}
 use Rattle.command_line.specs.Hosts.{HostView, source_in}
+use Rattle.command_line.specs.OnlyRead.{IsOnlyRead}
 use Rattle.command_line.specs.Merging.{IsMergeTold}
+use Rattle.command_line.specs.Verifying.{IsVerifyTold}
 
 -- ---- making a store
 
@@ -57,13 +59,6 @@ pub record IsLineTold {D : Type 0} (source : SourceView) (view : D → DiskView)
   pub told : HasTurn source view line (server fresh store) (server state after)
       (λ turn. Tells report turn.outcome)
   pub left_so : left ≡ after.disk
-
--- Only reads were made on the disk: what crashes may leave of an honest one is unchanged, so is
--- whether it is honest, and the count of failures isn't less.
-pub record IsOnlyRead {D : Type 0} (view : D → DiskView) (old new : D) : Type 0 where
-  pub moments : (view old).is_honest → (view new).moments ≡ (view old).moments
-  pub honesty : (view old).is_honest ↔ (view new).is_honest
-  pub failures : (view old).failures ≤ (view new).failures
 
 -- the line that imports or checks a release was answered, and afterwards the disk was only read
 abbrev pub IsReleaseTold : {D : Type 0} → SourceView → (D → DiskView) → List ℕ → StoreValue D → D
@@ -118,6 +113,8 @@ IsWorkTold host view (works.Merge segments) store left report =
     IsMergeTold view segments store left report
 IsWorkTold host view (works.Digest imports) store left report =
     IsLineTold no_releases view (digest_line imports) store left report
+IsWorkTold host view (works.Verify folder name list) store left report =
+    IsVerifyTold view list store left report
 IsWorkTold host view (works.Serve folder read_only words) store left report = ⊥
 
 -- what work does with an open store: only `serve` reads the input

@@ -1,6 +1,6 @@
 //! The source of a release that is checked, and its contradictions.
 
-ghost use Rattle.command_line.specs.Tasks.{IsOnlyRead};
+ghost use Rattle.command_line.specs.OnlyRead.{IsOnlyRead};
 
 use crate::contradicting::{MOST_TOLD, files_without_bytes, tell_contradictions};
 use crate::folder_source::FolderSource;

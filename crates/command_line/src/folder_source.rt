@@ -1,7 +1,7 @@
 //! A folder with the folders of releases, as a source.
 
 ghost use Rattle.std.specs.Prelude.{◌≡◌};
-ghost use Rattle.command_line.specs.Tasks.{IsOnlyRead};
+ghost use Rattle.command_line.specs.OnlyRead.{IsOnlyRead};
 
 use crate::endings::Ending;
 use crate::file_warning::warn_of_files;

@@ -1,8 +1,9 @@
 //! What the program can name: disks of stores, and folders of releases.
 
-ghost use Rattle.std.specs.Prelude.{◌≡◌, ℕ};
+ghost use Rattle.std.specs.Prelude.{◌≡◌, ◌-◌, ℕ, All, IfOk, length, min};
 ghost use Rattle.disk_model.specs.Disk.{raised_by};
 ghost use Rattle.line_server.specs.Sources.{IsGiven};
+ghost use Rattle.release_folder.specs.Names.{IsOfSnapshot};
 ghost use Rattle.command_line.specs.Hosts.{HostView, IsRemoved, MakesAsBefore};
 ghost use Rattle.command_line.specs.declared.host.Mode.TheVariants.{Open};
 
@@ -94,7 +95,8 @@ pub trait Host {
         name: &str,
         scope: Scope,
         faults: &mut E,
-    ) -> Result<Vec<SnapshotFile>, SourceFault>;
+    ) -> Result<Vec<SnapshotFile>, SourceFault>
+        ensures { IfOk result (λ files. All (IsOfSnapshot scope) files.items) };
 
     /// Reads the bytes of one of these files from one on, at most so many; fewer only at its end.
     fn part<E: Write>(
@@ -104,7 +106,9 @@ pub trait Host {
         from: u64,
         most: u64,
         faults: &mut E,
-    ) -> Result<Vec<u8>, SourceFault>;
+    ) -> Result<Vec<u8>, SourceFault>
+        ensures { IfOk result
+            (λ bytes. length bytes.items ≡ min most (file.now.bytes - from)) };
 
     /// The system error of the last call on the disk that failed, if one has failed.
     fn last_error(&self, disk: &Self::Disk) -> Option<io::Error>;

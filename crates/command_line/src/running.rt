@@ -9,7 +9,7 @@ ghost use Rattle.command_line.specs.declared.host.Mode.TheVariants.{Open};
 ghost use Rattle.command_line.specs.Runs.{Does, IsActionDone, IsMadeAt, FindsFolder, IsUsed};
 ghost use Rattle.command_line.specs.Runs.{mode_of, IsDemonstrated, IsDemonstration};
 ghost use Rattle.command_line.specs.Runs.{IsRun, IsNoTask, IsExplained};
-ghost use Rattle.command_line.specs.Private.{IsAtRest};
+ghost use Rattle.history_store.specs.Answers.{IsReady};
 
 use crate::check_source::CheckSource;
 use crate::copying::copy_to;
@@ -284,7 +284,7 @@ fn do_work<'a, H: Host, I: Read, O: Write, E: Write>(
     output: &mut O,
     faults: &mut E,
 ) -> Result<Ending, ServeFault>
-    requires { IsAtRest store.old }
+    requires { IsReady store.old }
     ensures { IsWorkDone (H.view host.now) H.Disk.view work.now store.old store.new.disk result
         (streams (I.remaining input.old) (I.remaining input.new)
         (O.contents output.old) (O.contents output.new)) }

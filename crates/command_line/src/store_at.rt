@@ -1,5 +1,10 @@
 //! The rows that a store shows at a date, as a comparison with a Snapshot reads them.
 
+ghost use Rattle.std.specs.Prelude.{◌≡◌};
+ghost use Rattle.question_model.specs.Questions.{row_question_of};
+ghost use Rattle.question_model.specs.Wanted.{rows_for};
+ghost use Rattle.command_line.specs.Private.Verifying.{IsPlain, IsAsked, read_fault_of};
+
 use disk_model::Disk;
 use fault_counts::ReadFault;
 use history_store::{Refusal, Store};
@@ -13,24 +18,33 @@ use std::alloc::Global;
 pub(crate) struct StoreAt<'a, D: Disk> {
     pub store: &'a mut Store<D>,
     pub date: EffectiveTime,
-    /// Why a call was refused last, if one was.
-    pub refused: Option<Refusal>,
+}
+
+/// Why a row can't be read, of which a question was refused. A store that failed before refuses
+/// each.
+fn read_fault_of(refusal: Refusal) -> ReadFault
+    ensures { result ≡ read_fault_of refusal }
+{
+    match refusal {
+        Refusal::OutOfMemory => ReadFault::OutOfMemory,
+        Refusal::Damaged => ReadFault::Damaged,
+        _ => ReadFault::DiskFault,
+    }
 }
 
 impl<D: Disk> StoreAt<'_, D> {
     /// The rows that a question finds.
-    fn select(&mut self, question: &RowQuestion<'_>) -> Result<Vec<Row>, ReadFault> {
+    fn select(&mut self, question: &RowQuestion<'_>) -> Result<Vec<Row>, ReadFault>
+        requires { IsPlain (row_question_of question.now) }
+        ensures asked { IsAsked D.view (rows_for (row_question_of question.now)) result
+            (λ rows. rows.items) self.old.store.now self.new.store.now }
+        ensures date { self.new.date ≡ self.old.date }
+        ensures store { self.new.store.ghost_name ≡ self.old.store.ghost_name }
+    {
         let pin = self.store.imports();
         match self.store.select(question, pin) {
             Ok(rows) => Ok(rows),
-            Err(refusal) => {
-                self.refused = Some(refusal);
-                match refusal {
-                    Refusal::OutOfMemory => Err(ReadFault::OutOfMemory),
-                    Refusal::Damaged => Err(ReadFault::Damaged),
-                    _ => Err(ReadFault::DiskFault),
-                }
-            }
+            Err(refusal) => Err(read_fault_of(refusal)),
         }
     }
 }
@@ -39,12 +53,11 @@ impl<D: Disk> Shown for StoreAt<'_, D> {
     ghost use Rattle.std.specs.Prelude.{◌≡◌};
     ghost use Rattle.rf2_values.specs.Row.{RowValue};
     ghost use Rattle.history_store.specs.StoreValue.{StoreValue};
-    ghost use Rattle.command_line.specs.Verifying.{rows_shown, MayBeReadFor, OnlyAsked};
-    ghost use Rattle.command_line.specs.Tasks.{IsOnlyRead};
+    ghost use Rattle.command_line.specs.Verifying.{rows_shown, MayBeReadFor};
+    ghost use Rattle.command_line.specs.Private.Verifying.{OnlyAsked, HasFailed};
     ghost use Rattle.std.proofs.Common.{refl, ◌∙◌};
     ghost use Rattle.command_line.proofs.Verifying.{exactly, keyed_so, same_rows, steady_so};
-    ghost use Rattle.command_line.proofs.Verifying.{still, asked_on};
-    ghost use Rattle.command_line.proofs.OnlyRead.{read_then};
+    ghost use Rattle.command_line.proofs.Verifying.{still, asked_on, failed_on};
 
     ghost at_date = { λ s. rows_shown s.store.now s.date };
 
@@ -55,7 +68,7 @@ impl<D: Disk> Shown for StoreAt<'_, D> {
     ghost stays = { λ a b. OnlyAsked D.view a.store.now b.store.now × (b.date ≡ a.date)
         × (b.store.ghost_name ≡ a.store.ghost_name) };
 
-    ghost fails = { λ e a b. IsOnlyRead D.view a.store.now.disk b.store.now.disk
+    ghost fails = { λ e a b. HasFailed D.view e a.store.now b.store.now
         × (b.store.ghost_name ≡ a.store.ghost_name) };
 
     ghost exact = { λ a honest read wanted may. exactly D.view a.store.now honest read wanted may };
@@ -72,10 +85,8 @@ impl<D: Disk> Shown for StoreAt<'_, D> {
     ghost stays_on = { λ a b c ab bc.
         (asked_on D.view a.store.now b.store.now c.store.now ab.0 bc.0, bc.1 ∙ ab.1, bc.2 ∙ ab.2) };
 
-    ghost fails_on = { λ e a b c ab bc. (
-      read_then D.view a.store.now.disk b.store.now.disk c.store.now.disk ab.0.only bc.0,
-      bc.1 ∙ ab.2,
-    ) };
+    ghost fails_on = { λ e a b c ab bc.
+        (failed_on D.view e a.store.now b.store.now c.store.now ab.0 bc.0, bc.1 ∙ ab.2) };
 
     fn row(&mut self, _alloc: Global, kind: Kind, id: u128) -> Result<Option<Row>, ReadFault> {
         let date = self.date;

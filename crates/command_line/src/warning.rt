@@ -1,6 +1,6 @@
 //! Warnings about a release beside what a store has, once the reply was written.
 
-ghost use Rattle.command_line.specs.Tasks.{IsOnlyRead};
+ghost use Rattle.command_line.specs.OnlyRead.{IsOnlyRead};
 
 use crate::outline::{Outline, raise};
 use disk_model::Disk;

@@ -513,7 +513,8 @@ fn verify_of<'a>(found: &ArgMatches<'a>) -> Option<Work<'a>>
     ensures { IfSome result (IsWork (codes "verify") (rows_of (found_of found.now))) }
 {
     let list = number_of(found, "list")??;
-    let (releases, name) = folder_and_name(found.get_str("releases"), found.get_str("name")?);
+    let path = found.get_str("name")?;
+    let (releases, name) = folder_and_name(found.get_str("releases"), path);
     Some(Work::Verify {
         releases,
         name,

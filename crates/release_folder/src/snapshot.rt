@@ -1,6 +1,6 @@
 //! The files of a package's Snapshot, which are read in parts.
 
-ghost use Rattle.std.specs.Prelude.{IfOk, OnOk, All};
+ghost use Rattle.std.specs.Prelude.{◌≡◌, ◌-◌, IfOk, OnOk, All, length, min};
 ghost use Rattle.release_folder.specs.Names.{IsOfSnapshot};
 
 use crate::folder::{names_in, refset_folders};
@@ -165,7 +165,9 @@ pub fn read_part<R: Files<File = File>>(
     file: &SnapshotFile,
     from: u64,
     most: u64,
-) -> Result<Vec<u8>, FolderReadFault> {
+) -> Result<Vec<u8>, FolderReadFault>
+    ensures { IfOk result (λ bytes. length bytes.items ≡ min most (file.now.bytes - from)) }
+{
     let wanted = most.min(file.bytes.saturating_sub(from));
     let mut bytes = Vec::new(alloc);
     match read_from(rt, &file.path, from, wanted, &mut bytes) {

@@ -1,6 +1,8 @@
 //! Compares a package's Snapshot with the rows that are shown.
 
 ghost use Rattle.std.specs.Prelude.{◌≡◌, [], IfOk, IfErr, OnOk};
+ghost use Rattle.history_model.specs.InOrder.{IsAscending};
+ghost use Rattle.history_model.specs.History.{row_cmp};
 ghost use Rattle.snapshot_check.specs.Differences.{AreDifferences, Exactly, shown_of};
 ghost use Rattle.snapshot_check.specs.Reading.{IsFailure, IsReadOf};
 ghost use Rattle.snapshot_check.specs.Private.{IsSeen, IsCompared, IsTaken, IsNothingTold};
@@ -142,11 +144,14 @@ pub fn compare<P: Package, S: Shown>(
     shown: &mut S,
     limit: usize,
 ) -> Result<Differences, CompareFault>
-    requires { P.given packaged.old ≡ [] }
+    requires none_given { P.given packaged.old ≡ [] }
+    requires in_order { IsAscending row_cmp (S.at_date shown.old).rows }
+    // promise: a_snapshot_is_compared_component_by_component
     ensures found { S.is_honest shown.old → IfOk result
         (AreDifferences Exactly (P.given packaged.new) (S.at_date shown.old) limit) }
     // Whatever rows are returned: those that are missing are, and each other row that is told was
     // returned for one that is shown.
+    // promise: a_snapshot_is_compared_component_by_component
     ensures possible { IfOk result
         (AreDifferences (S.reads shown.old) (P.given packaged.new) (S.at_date shown.old) limit) }
     ensures stays { OnOk result (S.stays shown.old shown.new) }

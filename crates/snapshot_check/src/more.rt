@@ -64,7 +64,6 @@ fn add_page<S: Shown>(
     limit: usize,
     more: &mut Told<Row>,
 ) -> Result<Option<u128>, CompareFault>
-    ensures ordered { IsAscending row_cmp (S.at_date shown.old).rows }
     ensures last { let at = S.at_date shown.old in IfOk result
         (λ last. last ≡ last_id None (page kind at.date after PAGE at.rows)) }
     ensures adds { let at = S.at_date shown.old in OnOk result ((rows : List RowValue)
@@ -88,6 +87,7 @@ fn add_kind<S: Shown>(
     limit: usize,
     more: &mut Told<Row>,
 ) -> Result<(), CompareFault>
+    requires { IsAscending row_cmp (S.at_date shown.old).rows }
     ensures adds { OnOk result ((rows : List RowValue) → IsSortedSeen rows seen.now
         → AddsMore (S.reads shown.old) rows (shown_of_kind (S.at_date shown.old) kind) limit
         more.old more.new) }
@@ -109,6 +109,7 @@ pub(crate) fn find_more<S: Shown>(
     shown: &mut S,
     limit: usize,
 ) -> Result<Told<Row>, CompareFault>
+    requires { IsAscending row_cmp (S.at_date shown.old).rows }
     ensures more { (rows : List RowValue) → IsSortedSeen rows seen.now → IfOk result
         (AreTold (TellsMore (S.reads shown.old) rows) (IsExpected (S.reads shown.old) rows)
         (all_shown (S.at_date shown.old)) limit) }

@@ -4,8 +4,6 @@ ghost use Rattle.std.specs.Prelude.{◌≡◌, List, IfOk, IfErr, OnOk};
 ghost use Rattle.std.specs.List.{AllZip};
 ghost use Rattle.rf2_values.specs.Row.{RowValue};
 ghost use Rattle.rf2_values.specs.Key.{key_of};
-ghost use Rattle.history_model.specs.InOrder.{IsAscending};
-ghost use Rattle.history_model.specs.History.{row_cmp};
 ghost use Rattle.history_model.specs.Queries.{page};
 ghost use Rattle.fault_counts.specs.declared.fault.ReadFault.{ReadFault};
 ghost use Rattle.snapshot_check.specs.Differences.{ShownRows, shown_component};
@@ -51,8 +49,6 @@ pub trait Shown {
     ) -> Result<Vec<Row>, ReadFault>
         ensures found { let at = at_date self.old in IfOk result
             (λ read. AllZip (reads self.old) read.items (page kind at.date after limit at.rows)) }
-        // The store's rows are in the order of their keys.
-        ensures ordered { IsAscending row_cmp (at_date self.old).rows }
         ensures stays { OnOk result (stays self.old self.new) }
         ensures fails { IfErr result (λ e. fails e self.old self.new) };
 

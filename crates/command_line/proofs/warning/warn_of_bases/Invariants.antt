@@ -1,4 +1,4 @@
-use Rattle.command_line.specs.Tasks.{IsOnlyRead}
+use Rattle.command_line.specs.OnlyRead.{IsOnlyRead}
 use Rattle.command_line.proofs.warning.warn_of_bases.Given as goal
 
 -- so far the disk was only read

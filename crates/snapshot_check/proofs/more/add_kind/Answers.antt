@@ -22,7 +22,7 @@ pub pages-smaller : goal.pages-smaller
 pages-smaller g c =
     let at = g.S.Shown.at_date c.args.shown.now in
     let same = g.met.S.Shown.same c.args.shown.now c.pages.shown c.pages.invariant.stays in
-    let up = subst (λ (s : ShownRows). IsAscending row_cmp s.rows) same c.in_ok-last.ensures.ordered in
+    let up = c.requires in
     let last = subst (λ (s : ShownRows). Some c.in-Some.last ≡ last_id None (page c.args.kind s.date c.pages.after 1000 s.rows)) same (rw c.in-Some.is at c.in_ok-last.ensures.last) in
     fewer_left c.args.kind at.date 1000 at.rows up c.pages.after c.in-Some.last last
 
@@ -32,7 +32,7 @@ pages-preserved g c =
     let reads = g.S.Shown.reads c.args.shown.now in
     let before = c.pages.invariant in
     let same = g.met.S.Shown.same c.args.shown.now c.pages.shown before.stays in
-    let up = subst (λ (s : ShownRows). IsAscending row_cmp s.rows) same c.in_ok-last.ensures.ordered in
+    let up = c.requires in
     let last = subst (λ (s : ShownRows). Some c.in-Some.last ≡ last_id None (page c.args.kind s.date c.pages.after 1000 s.rows)) same (rw c.in-Some.is at c.in_ok-last.ensures.last) in
     let those = page c.args.kind at.date c.pages.after 1000 at.rows in
     let split = page_then c.args.kind at.date 1000 at.rows up c.pages.after c.in-Some.last last in
@@ -54,7 +54,7 @@ returns-clause-adds g c = λ rows sorted.
     let reads = g.S.Shown.reads c.args.shown.now in
     let before = c.pages.invariant in
     let same = g.met.S.Shown.same c.args.shown.now c.pages.shown before.stays in
-    let up = subst (λ (s : ShownRows). IsAscending row_cmp s.rows) same c.in_ok-last.ensures.ordered in
+    let up = c.requires in
     let last = subst (λ (s : ShownRows). None ≡ last_id None (page c.args.kind s.date c.pages.after 1000 s.rows)) same (rw c.in_default.is at c.in_ok-last.ensures.last) in
     let those = page c.args.kind at.date c.pages.after 1000 at.rows in
     let ends = page_ends c.args.kind at.date 1000 at.rows up c.pages.after (omega arith) last in
