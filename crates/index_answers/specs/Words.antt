@@ -7,4 +7,4 @@ use Rattle.segment_index.specs.declared.words.Words.TheVariants as words
 -- whether the question is for words, and words are left out
 abbrev pub lacks_words : RowQuestion → Words → Bool
 lacks_words (AskWords date wanted_type offset limit text) words.LeftOut = true
-lacks_words question kept = false
+lacks_words _ _ = false

@@ -82,24 +82,24 @@ pub fn select<R: RowReader>(
 {
     let places = index.places();
     let links = index.links();
-    let read = match *question {
+    match *question {
         RowQuestion::Get { kind, id, date } => {
-            get(alloc, places, reader, kind, id, AsOf { date, pin })
+            Some(get(alloc, places, reader, kind, id, AsOf { date, pin }))
         }
-        RowQuestion::History { kind, id } => places.versions(reader, kind, id, pin),
+        RowQuestion::History { kind, id } => Some(places.versions(reader, kind, id, pin)),
         RowQuestion::Page {
             kind,
             date,
             after,
             limit,
-        } => places.page(reader, kind, AsOf { date, pin }, after, limit),
+        } => Some(places.page(reader, kind, AsOf { date, pin }, after, limit)),
         RowQuestion::Delta {
             kind,
             from,
             date,
             after,
             limit,
-        } => places.delta(reader, kind, from, AsOf { date, pin }, after, limit),
+        } => Some(places.delta(reader, kind, from, AsOf { date, pin }, after, limit)),
         RowQuestion::Terms {
             prefix,
             date,
@@ -110,7 +110,7 @@ pub fn select<R: RowReader>(
                 after: None,
                 limit,
             };
-            find(alloc, index.terms(), places, reader, prefix, &search)
+            Some(find(alloc, index.terms(), places, reader, prefix, &search))
         }
         RowQuestion::Search {
             prefix,
@@ -123,7 +123,7 @@ pub fn select<R: RowReader>(
                 after,
                 limit,
             };
-            find(alloc, index.terms(), places, reader, prefix, &search)
+            Some(find(alloc, index.terms(), places, reader, prefix, &search))
         }
         RowQuestion::Words {
             date,
@@ -132,25 +132,26 @@ pub fn select<R: RowReader>(
             limit,
             text,
         } => {
+            let words = index.words()?;
             let search = WordSearch {
                 as_of: AsOf { date, pin },
                 wanted_type: number_of(wanted_type),
                 offset,
                 limit,
             };
-            term_words::find(alloc, index.words()?, places, reader, text, &search)
+            Some(term_words::find(alloc, words, places, reader, text, &search))
         }
         RowQuestion::About { kind, id, date } => {
-            about(alloc, links, places, reader, kind, id, AsOf { date, pin })
+            Some(about(alloc, links, places, reader, kind, id, AsOf { date, pin }))
         }
         RowQuestion::Timeline { kind, id } => {
-            timeline(alloc, links, places, reader, kind, id, pin)
+            Some(timeline(alloc, links, places, reader, kind, id, pin))
         }
         RowQuestion::Replaced { id, date } => {
-            replacements(alloc, links, places, reader, id, AsOf { date, pin })
+            Some(replacements(alloc, links, places, reader, id, AsOf { date, pin }))
         }
         RowQuestion::Replaces { id, date } => {
-            replaces(alloc, links, places, reader, id, AsOf { date, pin })
+            Some(replaces(alloc, links, places, reader, id, AsOf { date, pin }))
         }
         RowQuestion::Members {
             refset,
@@ -159,7 +160,7 @@ pub fn select<R: RowReader>(
             limit,
         } => {
             let as_of = AsOf { date, pin };
-            members(alloc, links, places, reader, refset, as_of, after, limit)
+            Some(members(alloc, links, places, reader, refset, as_of, after, limit))
         }
         RowQuestion::Values {
             refset,
@@ -168,7 +169,7 @@ pub fn select<R: RowReader>(
             limit,
         } => {
             let as_of = AsOf { date, pin };
-            values(alloc, links, places, reader, refset, as_of, after, limit)
+            Some(values(alloc, links, places, reader, refset, as_of, after, limit))
         }
         RowQuestion::Called {
             concept,
@@ -176,11 +177,10 @@ pub fn select<R: RowReader>(
             refset,
         } => {
             let as_of = AsOf { date, pin };
-            called(alloc, links, places, reader, concept, as_of, refset)
+            Some(called(alloc, links, places, reader, concept, as_of, refset))
         }
         RowQuestion::AllRows { kind, after, limit } => {
-            places.rows_of_kind(reader, kind, after, limit, pin)
+            Some(places.rows_of_kind(reader, kind, after, limit, pin))
         }
-    };
-    Some(read)
+    }
 }

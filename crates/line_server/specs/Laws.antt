@@ -38,8 +38,8 @@ IsSure (Err (refusals.Store store.DiskFault)) = ⊥
 IsSure _ = Unit {0}
 
 -- A question is answered alike in two states in which it is asked about the same number of imports,
--- the histories agree up to it, and neither store lacks what it needs. So a question after AT is answered
--- as in a session that is pinned to these imports.
+-- the histories agree up to it, and neither store lacks what it needs. So a question after AT is
+-- answered as in a session that is pinned to these imports.
 abbrev pub PinnedIsUndisturbed : (D : Type 0) → (D → DiskView) → Type 0
 PinnedIsUndisturbed D view = (releases others : Releases) (a b after next : Server D)
     (line text : List ℕ) (session other pin : ℕ) (command also : Command) (question : Question)

@@ -406,8 +406,8 @@ pub record IsPerformed {D : Type 0} (honest : Type 0) (releases : Releases) (ses
   pub damage : new.held ≡ met_after outcome old.held
 
 -- A line that spells a request is answered by the outcome of its command, or refused because it is
--- held back or the store lacks what it needs. Any other line is refused with the first reason why it is
--- no request, and nothing changes.
+-- held back or the store lacks what it needs. Any other line is refused with the first reason why
+-- it is no request, and nothing changes.
 abbrev pub Replies : {D : Type 0} → Type 0 → Releases → List ℕ → Result Answer LineRefusal
     → Server D → Server D → Type 0
 Replies honest releases text outcome old new =

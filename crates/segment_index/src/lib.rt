@@ -1,6 +1,6 @@
 //! The index of a store's segments, in memory: the place of each row, and its postings: the folded
-//! term of a description (`term_prefix`), its words if these are kept (`term_words`), and its subject
-//! and postings by two numbers (`links`).
+//! term of a description (`term_prefix`), its words if these are kept (`term_words`), and its
+//! subject and postings by two numbers (`links`).
 #![tactic(auto)]
 
 mod added_places;

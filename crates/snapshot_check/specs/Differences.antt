@@ -120,8 +120,8 @@ IsExpected reads packaged wanted =
     (read : RowValue) × reads read wanted × (is_more packaged read ≡ false)
 
 -- How the rows that are shown differ from those of the package's Snapshot: of the Snapshot's rows,
--- in the order of the package, those that are missing and those that differ; of the rows that are
--- shown, in their order, those that are more.
+-- in the order in which they are given, those that are missing and those that differ; of the rows
+-- that are shown, in their order, those that are more.
 pub record AreDifferences (reads : RowValue → RowValue → Type 0) (packaged : List RowValue)
     (shown : ShownRows) (limit : ℕ) (found : Differences) : Type 0 where
   pub counted : (kind : Kind)

@@ -26,7 +26,8 @@ pub struct Counts {
 pub struct Differences {
     /// The rows of the Snapshot.
     pub counts: Counts,
-    /// The rows of the Snapshot of whose components no row is shown, in the order of the package.
+    /// The rows of the Snapshot of whose components no row is shown, in the order in which the
+    /// package gives them.
     pub missing: Told<Row>,
     /// The rows of the Snapshot of whose components another row is shown, in the same order.
     pub different: Told<DifferentRow>,

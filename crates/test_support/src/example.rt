@@ -74,7 +74,10 @@ impl Example {
         disk: MemDisk,
         layout: Layout,
     ) -> Result<Example, (Refusal, MemDisk)> {
-        put_in_box(alloc, Store::create(alloc, sound(disk), layout, Words::Kept))
+        put_in_box(
+            alloc,
+            Store::create(alloc, sound(disk), layout, Words::Kept),
+        )
     }
 
     /// Opens the store that a disk represents, or returns the disk.

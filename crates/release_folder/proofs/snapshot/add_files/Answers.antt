@@ -4,8 +4,8 @@ use Rattle.release_folder.specs.declared.snapshot.SnapshotFile.{SnapshotFile}
 use Rattle.release_folder.specs.Names.{IsSnapshotFile, IsOfSnapshot}
 use Rattle.release_folder.proofs.snapshot.add_files.Goals as goal
 
-pub loop-name-preserved-in-Some-snapshot_kind : goal.loop-name-preserved-in-Some-snapshot_kind
-loop-name-preserved-in-Some-snapshot_kind g c old =
+pub loop-name-preserved-in-Continue-branch-5 : goal.loop-name-preserved-in-Continue-branch-5
+loop-name-preserved-in-Continue-branch-5 g c old =
     let scope = c.args.scope in
     let name = c.in-Some.name in
     let kind = c.in-Some-snapshot_kind.kind in

@@ -1,8 +1,6 @@
 use Rattle.std.proofs.Common.{◌≡◌, [], ◌++◌, refl, sym, ap, subst, ◌∙◌, append_assoc, arith}
 use Rattle.std.specs.Prelude.{Some, None}
 use Rattle.std.proofs.lemmas.Result.{err_from_is_err_and}
-use Rattle.history_model.specs.InOrder.{IsAscending}
-use Rattle.history_model.specs.History.{row_cmp}
 use Rattle.history_model.specs.Laws.{last_id}
 use Rattle.history_model.specs.Queries.{page, all_above}
 use Rattle.snapshot_check.specs.Differences.{ShownRows, TellsMore, IsExpected}

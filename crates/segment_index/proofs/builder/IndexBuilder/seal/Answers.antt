@@ -7,7 +7,7 @@ use Rattle.segment_index.specs.Indexed.{SegmentRows}
 use Rattle.segment_index.proofs.Built.{ascending_places}
 use Rattle.segment_index.proofs.builder.IndexBuilder.seal.Goals as goal
 
-pub seal-requires : goal.seal-requires
-seal-requires c =
+pub seal-requires-2 : goal.seal-requires-2
+seal-requires-2 c =
     let up = subst (λ (s : SegmentRows). IsAscending stamped_cmp s.rows) (sym c.self.view_is) c.requires in
     subst (λ (p : List RowPlace). IsAscending place_cmp p) (sym c.self.invariant.places_are) (ascending_places c.self.inside.rows up)
