@@ -99,6 +99,18 @@ def test_questions_for_all(place: Place, store: Path) -> None:
         assert not hub.socket.exists()
 
 
+@pytest.mark.parametrize("options, wanted", (
+    ([], ["1000015", "END 1"]), (["--without-words"], ["ERR 16 NotKept"])))
+def test_words(place: Place, store: Path, options: list[str], wanted: list[str]) -> None:
+    """A hub may keep none; all else is answered then."""
+    with Hub(place, store, *options, asks=True) as hub:
+        client = hub.asker()
+        told = client.ask("WORDS 20200131 - 0 10 STR")
+        assert [line.removeprefix("ROW ").partition("\t")[0] for line in told] == wanted
+        assert client.ask("STATUS") == STATUS
+        assert len(client.ask("TERMS 20200131 10 STR")) == 2
+
+
 def test_what_arrives(place: Place, store: Path) -> None:
     """What comes to the program from the socket for questions is questions, each of its session."""
     recording = place.wrapped(RECORDER)

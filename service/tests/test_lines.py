@@ -1,9 +1,13 @@
 """Lines that the gateway would never make: none of them is sent, and what a hub says is read
 strictly."""
 
+import asyncio
+from types import SimpleNamespace
+from typing import cast
+
 import pytest
 
-
+from sctd_service import sockets
 from sctd_service.gateway import hub
 from sctd_service.gateway.hub import HubRefused, encoded, refusal
 from sctd_service.protocol import NotAReply, Replies
@@ -36,6 +40,22 @@ class TestLines:
             parts = [data[start : start + size] for start in range(0, len(data), size)]
             found = [reply.decode() for part in parts for reply in replies.feed(part)]
             assert (found, replies.rest) == (wanted, b""), size
+
+    def test_a_refusal_among_replies(self) -> None:
+        """What comes behind it is no reply to what is asked next."""
+        async def told() -> list[hub.Reply]:
+            reader = asyncio.StreamReader()
+            writer = cast(asyncio.StreamWriter, SimpleNamespace(write=lambda data: None))
+            connection = hub.Connection(reader, writer, sockets.Identity(0, 0, 0))
+            reader.feed_data(b"END 0\nERR 16 NotKept\n")
+            later = asyncio.get_running_loop().call_later
+            later(0.05, reader.feed_data, b"DATE 20200131\nEND 1\n")
+            with pytest.raises(HubRefused, match="NotKept"):
+                await connection.ask(["DATES", "WORDS", "DATES"])
+            later(0.1, reader.feed_data, b"OK 7\n")
+            return await connection.ask(["PIN"])
+
+        assert asyncio.run(told()) == [("OK 7",)]
 
     def test_refusals(self) -> None:
         for line, number in (

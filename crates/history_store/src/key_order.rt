@@ -1,6 +1,6 @@
 //! All versions of components in the order of their keys.
 
-ghost use Rattle.std.specs.Prelude.{◌≤◌};
+ghost use Rattle.std.specs.Prelude.{◌≡◌, ◌≤◌};
 
 use crate::reading::DiskRows;
 use crate::refusal::Refusal;

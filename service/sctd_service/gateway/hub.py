@@ -17,8 +17,9 @@ LINE = re.compile("[^\x00-\x1f\x7f-\x9f\u2028\u2029]+\\Z")
 # Numbers of refusals: the disk, memory, and a hub whose sessions are all taken.
 OUT_OF_MEMORY = 1
 STORE_IS_GONE = (2, 3, 41)
-# What `sctd` refuses of a store whose layout keeps no members of reference sets.
-NEEDS_LATER_LAYOUT = 14
+# What `sctd` refuses of a store whose layout keeps no members of reference sets, of one whose words
+# aren't kept, and a line whose words don't fit its command.
+NEEDS_LATER_LAYOUT, NOT_KEPT, ARGUMENTS = 14, 16, 43
 
 
 class HubGone(Exception):
@@ -72,14 +73,21 @@ class Connection:
         return replies
 
     async def replies(self, count: int) -> list[Reply]:
+        """So many replies. Those behind a refusal are read, so that no later line gets them."""
         done: list[Reply] = []
+        refused = list[HubRefused]()
         replies = Replies()
         while len(done) < count:
             for reply in replies.feed(await self.more(len(replies.rest))):
                 lines = reply.decode().split("\n")[:-1]
-                if lines[-1].startswith("ERR "):
-                    raise refusal(lines[-1])
                 done.append(tuple(lines))
+                if lines[-1].startswith("ERR "):
+                    error = refusal(lines[-1])
+                    if not isinstance(error, HubRefused):
+                        raise error
+                    refused.append(error)
+        if refused:
+            raise refused[0]
         return done
 
     async def more(self, kept: int) -> bytes:
@@ -102,6 +110,6 @@ def encoded(lines: Sequence[str]) -> bytes:
     return b"\n".join(data) + b"\n"
 
 
-def refusal(line: str) -> Exception:
+def refusal(line: str) -> HubGone | HubRefused:
     refused = HubRefused(line)
     return HubGone(line, True) if refused.number in STORE_IS_GONE else refused

@@ -1,4 +1,4 @@
-use Rattle.std.proofs.Common.{sym, ap}
+use Rattle.std.proofs.Common.{subst, sym, ap}
 use Rattle.store_image.specs.Kept.{history_of}
 use Rattle.segment_index.specs.Indexed.{StoreRows}
 use Rattle.history_store.specs.MergeInProgress.{HasSameWords}
@@ -9,7 +9,7 @@ use Rattle.history_store.proofs.GoingOn.{no_merge}
 use Rattle.history_store.proofs.store.Store.merge_abandon.Goals as goal
 
 pub invariant_of-self : goal.invariant_of-self
-invariant_of-self g c = (c.self.invariant.0, no_merge _ _ _ _ _ _ c.take.ensures.after, subst (λ o. HasSameWords _ o) (sym c.take.ensures.after) tt)
+invariant_of-self g c = (c.self.invariant.0, no_merge _ _ _ _ _ _ c.take.ensures.after, subst (λ o. HasSameWords c.self.inside.index.words o) (sym c.take.ensures.after) tt)
 
 pub returns-clause-answer : goal.returns-clause-answer
 returns-clause-answer g c =

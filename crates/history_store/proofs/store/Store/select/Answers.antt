@@ -19,7 +19,7 @@ invariant_of-self g c =
     let r = c.new-reader.ensures in
     let now = c.select.new.reader in
     let both = held_after g.D.Disk.view _ _ _ _ _ _ _ _ _ _ c.self.invariant.0 r.disk r.cache r.entries r.shown c.self.inside.merge now.disk.now now.cache.now now.entries.now now.shown.now c.self.invariant.1 c.select.ensures.stays.0
-    (g.met.D.Disk.now_is_image c.self.inside.disk) c.in-Some.ensures.1.reader.honesty in
+    (g.met.D.Disk.now_is_image c.self.inside.disk) c.in-Some.ensures.answer.1.reader.honesty in
     (both.0, both.1, c.self.invariant.2)
 
 pub returns-in-Some-clause-answer : goal.returns-in-Some-clause-answer
@@ -32,11 +32,11 @@ returns-in-Some-clause-answer g c = rw (← c.self.view_is) (λ kept.
     c.new-reader.result.disk.now c.select.new.reader.disk.now c.new-reader.result.cache.now c.select.new.reader.cache.now c.in-Some.read c.answered.result
     (is_put_in_order (row_question_of c.args.question.now)) (ap (λ e. e.now) e.stays.3) refl c.if-self.false r.disk r.cache r.entries r.shown
     refl (λ up. reader_honest g.D.Disk.view _ _ _ _ _ _ _ _ _ _ c.self.invariant.0 r.disk r.cache r.entries r.shown up c.if-self.false (g.met.D.Disk.now_is_image c.self.inside.disk up))
-    c.in-Some.ensures.1 e.stays.0 e.stays.5 e.stays.6 a.same a.left a.disk a.cache a.acknowledged)
+    c.in-Some.ensures.answer.1 e.stays.0 e.stays.5 e.stays.6 a.same a.left a.disk a.cache a.acknowledged)
 
 pub returns-in-Some-clause-not_kept : goal.returns-in-Some-clause-not_kept
 returns-in-Some-clause-not_kept g c =
-    rw (← c.self.view_is) (λ lacks. absurd (false≢true (sym c.in-Some.ensures.0 ∙ lacks)))
+    rw (← c.self.view_is) (λ lacks. absurd (false≢true (sym c.in-Some.ensures.answer.0 ∙ lacks)))
 
 -- where nothing was read
 pub returns-then-self-clause-answer : goal.returns-then-self-clause-answer
@@ -49,12 +49,12 @@ returns-then-self-clause-not_kept g c =
 
 pub returns-in-None-clause-answer : goal.returns-in-None-clause-answer
 returns-in-None-clause-answer g c =
-    rw (← c.self.view_is) (λ kept. absurd (false≢true (sym kept ∙ c.in-None.ensures.0)))
+    rw (← c.self.view_is) (λ kept. absurd (false≢true (sym kept ∙ c.in-None.ensures.answer.0)))
 
 pub returns-in-None-clause-not_kept : goal.returns-in-None-clause-not_kept
 returns-in-None-clause-not_kept g c =
     let r = c.new-reader.ensures in
-    let same = c.in-None.ensures.1 in
+    let same = c.in-None.ensures.answer.1 in
     let disk = ap (λ x. x.disk.now) same ∙ r.disk in
     let cache = ap (λ x. x.cache.now) same ∙ r.cache in
     rw (← c.self.view_is) (λ lacks. record {
