@@ -30,6 +30,12 @@ use Rattle.command_line.specs.Verifying.{MayBeReadFor, IsNotCompared}
 use Rattle.command_line.specs.Private.Verifying.{OnlyAsked, HasFailed, IsReadFailure, IsAsked, read_fault_of, refusal_for, IsToldOr}
 use Rattle.command_line.proofs.OnlyRead.{queried}
 
+first_same : (x w : RowValue) (xs ws : List RowValue) → x ∷ xs ≡ w ∷ ws → x ≡ w
+first_same x w xs ws same = cc
+
+rest_same : (x w : RowValue) (xs ws : List RowValue) → x ∷ xs ≡ w ∷ ws → xs ≡ ws
+rest_same x w xs ws same = cc
+
 -- ---- a list of one row at most
 
 -- the last one of the rows that were returned for one, or for none
@@ -39,7 +45,7 @@ popped R [] rest (Some y) None is there zip = let some = there.0 refl in absurd 
 popped R (x ∷ xs) rest last None is there zip = absurd zip
 popped R [] rest last (Some w) is there zip = absurd zip
 popped R (x ∷ []) rest None (Some w) is there zip = absurd (false≢true (there.1 (omega arith)))
-popped R (x ∷ []) [] (Some y) (Some w) is there zip = subst (λ r. R r w) (cc : x ≡ y) zip.0
+popped R (x ∷ []) [] (Some y) (Some w) is there zip = let same : x ≡ y = cc in subst (λ r. R r w) same zip.0
 popped R (x ∷ []) (z ∷ zs) (Some y) (Some w) is there zip =
     let long = ap length is in let more = length-append zs (y ∷ []) in absurd (omega (arith, long, more))
 popped R (x ∷ x' ∷ xs) rest last (Some w) is there zip = absurd zip.1
@@ -52,8 +58,8 @@ module _ {D : Type 0} (view : D → DiskView) where
   may_be store [] (w ∷ ws) zip same = absurd zip
   may_be store (x ∷ xs) [] zip same = absurd zip
   may_be store (x ∷ xs) (w ∷ ws) zip same = (
-    record { stored = zip.0; exact = λ honest. let e = same honest in (cc : x ≡ w) },
-    may_be store xs ws zip.1 (λ honest. let e = same honest in (cc : xs ≡ ws)),
+    record { stored = zip.0; exact = λ honest. first_same x w xs ws (same honest) },
+    may_be store xs ws zip.1 (λ honest. rest_same x w xs ws (same honest)),
   )
 
   failure_of : (e : Refusal) (old new : StoreValue D) → IsReadRefusal e old → ((view old.disk).is_honest → e ≢ refusals.Damaged) → CountsRefusal e (view old.disk).failures (view new.disk).failures → IsReadFailure view (read_fault_of e) old new

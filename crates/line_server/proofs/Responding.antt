@@ -96,11 +96,11 @@ module _ {D : Type 0} (view : D → DiskView) (pin : ℕ) (s : StoreValue D) whe
 module _ {D : Type 0} (view : D → DiskView) (s : StoreValue D) where
   pub status_told : (reply : ReplyValue) → s.needs_reopen ≡ false → reply ≡ reply_value (Ok (Done (status_of s))) → IsCarriedOut (Ok reply) view Status s s
   status_told reply still told has session state free =
-      responded view (Ok reply) has session Status (Ok (Done (status_of s))) (server state s) (server state s) free (λ later. later) refl told (still, refl, refl) (unmade view s) refl refl (omega arith)
+      responded view (Ok reply) has session Status (Ok (Done (status_of s))) (server state s) (server state s) free (λ later. later.1) refl told (still, refl, refl) (unmade view s) refl refl (omega arith)
 
   pub status_closed : s.needs_reopen ≡ true → IsCarriedOut (Err (refusals.Store store.ReopenNeeded)) view Status s s
   status_closed needs has session state free =
-      responded view (Err (refusals.Store store.ReopenNeeded)) has session Status (Err (refusals.Store store.ReopenNeeded)) (server state s) (server state s) free (λ later. later) refl refl
+      responded view (Err (refusals.Store store.ReopenNeeded)) has session Status (Err (refusals.Store store.ReopenNeeded)) (server state s) (server state s) free (λ later. later.1) refl refl
       (refl, needs, refl) (unmade view s) refl refl (omega arith)
 
 -- ---- whatever the source has
@@ -123,7 +123,7 @@ repinned state session pin = record state { pins = slice_set state.pins session 
 module _ {D : Type 0} (source : SourceView) (view : D → DiskView) (session : ℕ) (state : StateValue) (s : StoreValue D) where
   pub unpinned : (reply : ReplyValue) → reply ≡ reply_value (Ok (Done [])) → IsResponse (Ok reply) source view session Unpin (server state s) (server (repinned state session None) s)
   unpinned reply told = any_source source view (Ok reply) session Unpin (server state s) (server (repinned state session None) s)
-      (responded view (Ok reply) source.releases session Unpin (Ok (Done [])) (server state s) (server (repinned state session None) s) (change_of state.held Unpin) (λ later. later) refl told (refl, refl) (unmade view s) refl refl (omega arith))
+      (responded view (Ok reply) source.releases session Unpin (Ok (Done [])) (server state s) (server (repinned state session None) s) (change_of state.held Unpin) (λ later. later.1) refl told (refl, refl) (unmade view s) refl refl (omega arith))
 
 -- ---- PIN
 
@@ -131,7 +131,7 @@ module _ {D : Type 0} (view : D → DiskView) (session : ℕ) (state : StateValu
   pub pinned : (pin : ℕ) (reply : ReplyValue) → (pin ≤ s.history.imports) × (pin ≡ unwrap_or number s.history.imports) → reply ≡ reply_value (Ok (Done (decimal pin ∷ [])))
       → IsResponse (Ok reply) (source_view (Unit {0}) has) view session (Pin number) (server state s) (server (repinned state session (Some pin)) s)
   pinned pin reply h told =
-      responded view (Ok reply) has session (Pin number) (Ok (Done (decimal pin ∷ []))) (server state s) (server (repinned state session (Some pin)) s) (change_of state.held (Pin number)) (λ later. later) refl told
+      responded view (Ok reply) has session (Pin number) (Ok (Done (decimal pin ∷ []))) (server state s) (server (repinned state session (Some pin)) s) (change_of state.held (Pin number)) (λ later. later.1) refl told
       (answered_so number h) (unmade view s) refl refl (omega arith) where
         answered_so : (number : Option ℕ) → (pin ≤ s.history.imports) × (pin ≡ unwrap_or number s.history.imports)
             → IsAnswer (view s.disk).is_honest has session (Pin number) (Done (decimal pin ∷ [])) (server state s) (server (repinned state session (Some pin)) s)
@@ -140,7 +140,7 @@ module _ {D : Type 0} (view : D → DiskView) (session : ℕ) (state : StateValu
 
   pub out_of_range : (n : ℕ) × (number ≡ Some n) × (s.history.imports < n) → IsResponse (Err refusals.PinRange) (source_view (Unit {0}) has) view session (Pin number) (server state s) (server state s)
   out_of_range h =
-      responded view (Err refusals.PinRange) has session (Pin number) (Err refusals.PinRange) (server state s) (server state s) (change_of state.held (Pin number)) (λ later. later) refl refl
+      responded view (Err refusals.PinRange) has session (Pin number) (Err refusals.PinRange) (server state s) (server state s) (change_of state.held (Pin number)) (λ later. later.1) refl refl
       (subst (λ (o : Option ℕ). IsOutOfRange session (Pin o) (server state s)) (sym h.1) h.2, refl) (unmade view s) refl refl (omega arith)
 
 -- ---- RECEIPT
