@@ -48,4 +48,4 @@ returns-in-Some-clause-turn g c = λ line reads.
     for_lack (source_view (g.S.Source.is_honest c.args.source.now) (g.S.Source.releases c.args.source.now)) g.D.Disk.view line c.in-Ok.request.session (command_of c.in-Ok.request.command) (server c.args.state.now c.args.store.now) asks c.in-Some.lack c.in-Some.ensures
 
 pub respond-requires-clause-has_all : goal.respond-requires-clause-has_all
-respond-requires-clause-has_all g c = λ any. let none = rw c.in_default.is at c.lack_of.ensures in none any.0 any.1
+respond-requires-clause-has_all g c = λ any. c.in_default.ensures any.0 any.1
