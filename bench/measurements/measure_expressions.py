@@ -41,7 +41,8 @@ EXPRESSIONS = (
     "^ $S AND << $X", "* : $a = $Y", "* : $a = << $Y", "<< $W : $a = << $Y", "<< $X : $a = << $Y",
     "(<< $X OR << $V) : $a = << $Y", "<< $X : { $a = << $Y }", "<< $X : { $a = << $Y , $b = * }",
     "<< $X : $a = *", "<< $W . $a", "<< $Y : R $a = << $X", "* : R $a = << $W",
-    "<< $W {{ + HISTORY-MOD }}", "<< $W {{ C definitionStatus = defined }}")
+    "<< $W {{ + HISTORY-MOD }}", "<< $W {{ C definitionStatus = defined }}",
+    "<< $X {{ term = \"frac heart kid\" }}", "<< $W {{ term = wild:\"*heart*\" }}")
 
 
 class Taken(NamedTuple):

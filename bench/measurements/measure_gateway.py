@@ -3,7 +3,8 @@
 measure_gateway.py PROGRAM [--rows N] [--seconds N] [--hub PATH] [--raw-only] [--package]
 
 $lookup is asked by 1 and by 16 clients, of random codes on random days, and of 200 codes on one
-day, whose replies are remembered; and the hub alone is asked the questions of a $lookup by 8
+day, whose replies are remembered; the first letters of two words of a term are searched by 1
+client, as the page does while one types; and the hub alone is asked the questions of a $lookup by 8
 clients, one by one and four in one write. Clients are two processes, which need a processor of
 their own. With --package the release is a whole package in a store of layout 3, and the gateway has
 a language, so $lookup asks for preferred terms and members too. Then the reference set that has
@@ -12,6 +13,7 @@ each concept is expanded page by page on the last day, twice, by one client.
 
 import argparse
 import contextlib
+import datetime
 import functools
 import http.client
 import json
@@ -27,6 +29,7 @@ import time
 from collections.abc import Callable, Sequence
 from multiprocessing.queues import Queue
 from pathlib import Path
+from urllib.parse import urlencode
 
 import make_release as rf2
 from measure_harness import absolute, child_of, made_release, print_head, print_row, seconds_used
@@ -43,6 +46,8 @@ READ_BYTES = 1 << 18
 VERSION = "http://snomed.info/sct/%s/version/" % EDITION
 US_ENGLISH, MAP_OF_ALL = "900000000000509007", "900000000000497000"
 PAGE = 1_000
+# Where a description has its term, and how many letters of a word are typed.
+TERM, TYPED = 7, 3
 # What is measured where nothing else is said: rows, and seconds a line of the table.
 DEFAULT_ROWS, DEFAULT_SECONDS = 2_350_000, 5
 HUB = str(SERVICE / "sctd-hub")
@@ -117,6 +122,13 @@ def lookup(codes: Sequence[str], days: Sequence[str]) -> bytes:
     code, day = random.choice(codes), random.choice(days)
     return request("/fhir/CodeSystem/$lookup?system=http://snomed.info/sct&code=%s&version=%s%s" % (
         code, VERSION, day))
+
+
+def search(terms: Sequence[str], days: Sequence[str]) -> bytes:
+    words = random.sample(random.choice(terms).split(), 2)
+    text = " ".join(word[:TYPED] for word in words)
+    day = datetime.date.fromisoformat(random.choice(days)).isoformat()
+    return request("/suggest?" + urlencode({"text": text, "date": day}))
 
 
 def questions(codes: Sequence[str], days: Sequence[str]) -> bytes:
@@ -230,6 +242,10 @@ def concepts(folder: str) -> list[str]:
     return sorted({row[0] for row in rf2.rows_of(os.path.join(folder, "full"), "C")})
 
 
+def terms_of(folder: str) -> list[str]:
+    return [row[TERM] for row in rf2.rows_of(os.path.join(folder, "full"), "D")]
+
+
 def make_store(options: argparse.Namespace, folder: str, store: str) -> None:
     """A store with a made release."""
     made_release(folder, options.rows, is_package=options.package)
@@ -265,12 +281,14 @@ def tried(options: argparse.Namespace) -> None:
             functools.partial(make, codes, days) for make in (lookup, question, questions))
         few = random.Random(1).sample(codes, min(FEW_CODES, len(codes)))
         one_day = functools.partial(lookup, few, days[-1:])
+        words = functools.partial(search, terms_of(folder), days)
         print_head("Asked", "Clients", "a second", "median ms",
                    "processor us: gateway / hub / program")
         for name, pids, client, path, make, clients in (
                 ("$lookup", every, HttpClient, place, any_code, 1),
                 ("$lookup", every, HttpClient, place, any_code, 16),
                 ("$lookup, remembered", every, HttpClient, place, one_day, 16),
+                ("a search by words", every, HttpClient, place, words, 1),
                 ("the hub, one question", below, HubClient, hub_socket, one, 8),
                 ("the hub, four at once", below, HubClient, hub_socket, four, 8)):
             if pids is below or not options.raw_only:

@@ -159,17 +159,19 @@ class Sctd:
         """Imports the release of this name."""
         return self.run("import", "--quiet", "--releases", self.place, name)
 
-    def served(self) -> "Served":
-        return Served(self.program, self.path, self.place)
+    def served(self, *words: str) -> "Served":
+        """The program, serving the store, with further words."""
+        return Served(self.program, self.path, self.place, *words)
 
 
 class Served:
     """The program, serving a store. It is made once its opening has ended."""
 
-    def __init__(self, program: str, path: str, releases: str) -> None:
+    def __init__(self, program: str, path: str, releases: str, *words: str) -> None:
         start = time.monotonic()
-        self.child = subprocess.Popen([program, "serve", "--store", path, "--releases", releases],
-                                      stdin=subprocess.PIPE, stdout=subprocess.PIPE)
+        self.child = subprocess.Popen(
+            [program, "serve", "--store", path, "--releases", releases, *words],
+            stdin=subprocess.PIPE, stdout=subprocess.PIPE)
         assert self.child.stdin and self.child.stdout
         self.input, self.output, self.pid = self.child.stdin, self.child.stdout, self.child.pid
         self.replies(["0 STATUS"])
@@ -200,8 +202,12 @@ class Served:
         self.input.write(text)
         self.input.flush()
 
+    def used(self) -> float:
+        """How many seconds of the processor it has used."""
+        return processor_seconds(self.pid)
+
     def timed(self, lines: Sequence[str]) -> tuple[bytes, Cost]:
-        """The same, with what it cost."""
+        """What it writes, with what it cost."""
         start, used = time.monotonic(), seconds_used(self.pid)
         told = self.replies(lines)
         return told, Cost(time.monotonic() - start, seconds_used(self.pid) - used)

@@ -20,7 +20,8 @@ FLAGS = ["--headless=new", "--no-sandbox", "--disable-gpu", "--disable-dev-shm-u
 SECONDS = 90
 READ_BYTES = 1 << 16
 # Keys by their names, with their codes and what they write.
-KEYS = {"Tab": (9, ""), "Enter": (13, "\r"), " ": (32, " ")}
+KEYS = {"Tab": (9, ""), "Enter": (13, "\r"), " ": (32, " "), "Escape": (27, ""),
+        "ArrowUp": (38, ""), "ArrowDown": (40, "")}
 
 # What Chromium says: an answer to a question, or an event.
 Message = dict[str, Any]

@@ -127,10 +127,20 @@ const smallTargets = () => all(TARGETS).filter(one => one.checkVisibility()).fil
 const notPrinted = () => all("form, nav, .links, .skip").filter(one => one.checkVisibility())
   .map(one => one.tagName);
 
+// What the field for a code and its list say they are, whether the list is open, and which of its
+// options is chosen.
+const combobox = () => {
+  const field = document.getElementById("q");
+  const [list, option] = ["aria-controls", "aria-activedescendant"]
+    .map(name => document.getElementById(field.getAttribute(name)));
+  const isOpen = field.getAttribute("aria-expanded") === "true";
+  return [field.role, list.role, isOpen && list.checkVisibility(), option?.dataset.code ?? ""];
+};
+
 // What the field for a code suggests, once it suggests anything.
 const suggested = () => new Promise(done => {
   const look = () => {
-    const found = all("#found option").map(one => one.value);
+    const found = all("#found li").map(one => one.dataset.code);
     if (found.length) done(found); else setTimeout(look, 50);
   };
   look();

@@ -20,7 +20,7 @@ UNWANTED = ("Runtime.consoleAPICalled", "Runtime.exceptionThrown", "Log.entryAdd
             "Page.javascriptDialogOpening")
 # What needs a name for those who don't see it, by its role.
 NAMED = {"link", "button", "textbox", "searchbox", "combobox", "checkbox", "Date", "table",
-         "navigation", "heading", "columnheader", "rowheader"}
+         "navigation", "heading", "columnheader", "rowheader", "listbox", "option"}
 
 
 def asked(browser: chromium.Browser, question: str) -> Any:

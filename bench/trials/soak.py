@@ -24,7 +24,8 @@ from pathlib import Path
 from typing import Optional
 
 from harness import NOT_RUN, Place, Server, Wrong, parser_of, same, tell
-from soak_model import CONCEPT, DESTINATION, KINDS, REFERENCED, REFSET, SUBJECTS, TARGET, TYPE
+from soak_model import CONCEPT, DESTINATION, KINDS, REFERENCED, REFSET, SUBJECTS, TARGET, TERM
+from soak_model import TYPE
 from soak_model import Columns, Fault, File, Model, State, publications
 import make_release as rf2  # harness.py looks for it.
 
@@ -84,6 +85,7 @@ FORMS = """4 GET {kind} {id} {date}
 1 PAGE {kind} {date} {after} {limit}
 2 DELTA {kind} {begin} {date} {after} {limit}
 1 TERMS {date} {few} {prefix}
+3 WORDS {date} {kind_of_term} {offset} {few} {words}
 1 CHILDREN {C} {date}
 1 ANCESTORS {C} {date}
 1 DESCENDANTS {C} {date}
@@ -325,6 +327,14 @@ class Soak:
         found = self.releases.row_of(self.kind)
         key = "%s %s" % (found[0], found[1]) if found and self.is_so(0.7) else "- -"
         return self.chance.choice([key, key, key, "- %s" % DATES[0]])
+
+    def words(self) -> str:
+        """Beginnings of words of one term, as a rule, or a text that has no word."""
+        found = self.releases.row_of("D")
+        words = found[TERM].split(" ") if found else [rf2.WORDS[0]]
+        some = self.chance.sample(words, min(len(words), self.chance.choice([1, 1, 2, 3])))
+        text = " ".join(word[: self.chance.choice([1, 3, 9])] for word in some)
+        return self.chance.choice([text, text.upper(), text.lower(), text, "-"])
 
     def links(self) -> str:
         """A type of relationships or none, and a concept, as a rule one that is a destination."""
@@ -642,6 +652,8 @@ PARTS: dict[str, Callable[[Soak], object]] = {
     "after_value": lambda it: it.chance.choice([
         "-", it.told_by("M", REFERENCED), it.component("D")]),
     "prefix": lambda it: it.chance.choice(rf2.WORDS)[: it.chance.choice([1, 2, 9])].upper(),
+    "kind_of_term": lambda it: it.chance.choice(["-", "-", rf2.SYNONYM, rf2.FULLY_SPECIFIED]),
+    "offset": lambda it: it.chance.choice([0, 0, 1, 20]), "words": lambda it: it.words(),
     "import": lambda it: it.chance.randint(0, it.model.state.imports + 1),
     "days": lambda it: it.chance.choice(["DATES", "DATES", "DIGEST"]),
     "replacing": lambda it: it.told_by("A", TARGET), "subject": lambda it: it.subject(),

@@ -4,6 +4,7 @@ refuse_growths.py. It shares nothing with the program. Standard library alone.""
 import bisect
 import hashlib
 import inspect
+import unicodedata
 from typing import Callable, Iterable, Iterator, Mapping, NamedTuple, Optional, Sequence
 
 Columns = list[str]
@@ -16,8 +17,8 @@ SUBJECTS = {"D": 4, "V": 4, "R": 4, "A": 5, "M": 5}
 # The columns of a relationship, and of an association or another member of a reference set.
 SOURCE, DESTINATION, TYPE = 4, 5, 7
 REFSET, REFERENCED, TARGET = 4, 5, 6
-# The column of a description that has its concept, and the one that has its term.
-CONCEPT, TERM = 4, 7
+# The columns of a description that have its concept, its type and its term.
+CONCEPT, KIND_OF_TERM, TERM = 4, 6, 7
 IS_A = "116680003"
 # What stands before the check digit of a concept's SCTID, and of any component's.
 OF_CONCEPTS = ("00", "10")
@@ -155,6 +156,18 @@ def reached(first: int, steps: Iterable[tuple[int, int]]) -> set[int]:
     return found
 
 
+def words_of(text: str) -> list[str]:
+    """The words of a text: its runs of letters and digits, of no case and without marks."""
+    parts = (part for c in text.casefold() for part in unicodedata.normalize("NFD", c))
+    plain = (part for part in parts if unicodedata.category(part)[0] != "M")
+    return "".join(part if unicodedata.category(part)[0] in "LN" else " " for part in plain).split()
+
+
+def begins_each(wanted: Iterable[str], words: Sequence[str]) -> bool:
+    """Whether each wanted word begins one of the words."""
+    return all(any(word.startswith(one) for word in words) for one in wanted)
+
+
 class Model:
     """What each line is answered, by the definitions: slow and plain. A store of layout 3 asks for
     all files of a release, one of a layout below for the basic ones alone."""
@@ -264,6 +277,16 @@ class Model:
         if after != "-":
             found = [c for c in found if int(c[0]) > int(after)]
         return rows_and_end(found[: int(limit)])
+
+    def ask_words(self, pin: int, date: str, kind_of_term: str, offset: str, limit: str,
+                  text: str) -> Reply:
+        wanted = words_of(text)
+        if not wanted:
+            return NO_ARGUMENTS
+        found = [c for c in self.active(pin, "D", date) if kind_of_term in ("-", c[KIND_OF_TERM])
+                 and begins_each(wanted, words_of(c[TERM]))]
+        found.sort(key=lambda c: (len(c[TERM]), int(c[0])))
+        return rows_and_end(found[int(offset) :][: int(limit)])
 
     def ask_about(self, pin: int, kind: str, name: str, date: str) -> Reply:
         if kind not in SUBJECTS:

@@ -99,6 +99,18 @@ def test_questions_for_all(place: Place, store: Path) -> None:
         assert not hub.socket.exists()
 
 
+@pytest.mark.parametrize("options, wanted", (
+    ([], ["1000015", "END 1"]), (["--without-words"], ["ERR 16 NotKept"])))
+def test_words(place: Place, store: Path, options: list[str], wanted: list[str]) -> None:
+    """A hub may keep none; all else is answered then."""
+    with Hub(place, store, *options, asks=True) as hub:
+        client = hub.asker()
+        told = client.ask("WORDS 20200131 - 0 10 STR")
+        assert [line.removeprefix("ROW ").partition("\t")[0] for line in told] == wanted
+        assert client.ask("STATUS") == STATUS
+        assert len(client.ask("TERMS 20200131 10 STR")) == 2
+
+
 def test_what_arrives(place: Place, store: Path) -> None:
     """What comes to the program from the socket for questions is questions, each of its session."""
     recording = place.wrapped(RECORDER)
@@ -122,8 +134,9 @@ def test_days_to_come(hub: Hub) -> None:
     for line in ("AT 1 DELTA C 20200131 20991231 - 1", "GET C 1000004 20991230"):
         assert client.ask(line)[-1].startswith("END ")
     other.ask("CHILDREN 1000004 20991230\r")
+    hub.client().ask("WORDS 20991229 - 0 1 str")
     assert hub.logged() == [f"user {os.getuid()} asks about {day}, which is yet to come"
-                            for day in ("20991231", "20991230")]
+                            for day in ("20991231", "20991230", "20991229")]
 
 
 def test_pins_apart(hub: Hub) -> None:

@@ -34,7 +34,7 @@ DEMONSTRATION = TOP / "bench" / "cases" / "demonstration.txt"
 MEANINGS = {"CORE": "900000000000207008", "PRIM": "900000000000074008",
             "SYN": "900000000000013009", "ECI": "900000000000448009"}
 # How many lines the help of `serve` has as examples, and the refusals of a line that is no request.
-EXAMPLES = 36
+EXAMPLES = 37
 NO_REQUEST = ("ERR 40 ", "ERR 41 ", "ERR 42 ", "ERR 43 ")
 CONCEPTS = "sct2_Concept_Delta_INT_20200131.txt"
 FULL_CONCEPTS = "sct2_Concept_Full_INT_20200131.txt"

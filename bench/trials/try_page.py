@@ -118,15 +118,15 @@ OPENED = (
     Opened("no such code", "", {"q": "999999006"}, [
         "The code 999999006 isn\u2019t in the store"]),
     Opened("no word", "", {}, ["Type a code"]),
-    Opened("a search", "", {"q": "Hostile"}, ["1 term begins", "</textarea><script>"],
-           is_walked=True),
-    Opened("a hostile search", "", {"q": "<img src=x onerror=alert(1)>"}, ["No term begins"]),
+    Opened("a search", "", {"q": "script HOSTILE"},
+           ["1 concept has a term", "</textarea><script>"], is_walked=True),
+    Opened("a hostile search", "", {"q": "<img src=y onerror=alert(1)>"}, ["No concept has"]),
     Opened("no changes yet", "changes", {}, ["Type a concept\u2019s code and two days"]),
     Opened("what changed", "changes", {"concept": "{finding}", "from": "2019-01-31"}, [
         "concepts changed", "Fracture of carpal bone (disorder)", "Parent withdrawn",
         "All of it as CSV"], is_walked=True))
 RECORD, CHANGES = OPENED[0], OPENED[-1]
-TYPING = Opened("typing", "", {}, [])
+TYPING, TYPED = Opened("typing", "", {}, []), "document.getElementById('q').value"
 NO_CHANGES = Opened("no changes yet", "changes", {}, [])
 NO_LIST = Opened("no list yet", "records", {}, ["Paste a list of records"])
 TITLE = "Fracture of wrist (disorder) %s \u00b7 The record as it stood"
@@ -242,13 +242,39 @@ def keyboard_for_changes(page: Page) -> None:
 
 
 def suggestions(page: Page) -> None:
-    """What the script adds: terms while typing."""
-    page.open(TYPING)
-    page.browser.value("document.getElementById('q').focus()")
-    page.browser.write("fracture of w")
-    told = page_rules.asked(page.browser, "suggested()")
-    if told != [page.codes["wrist"]]:
-        raise Wrong("typing: %s are suggested" % told)
+    """What the script adds: concepts while typing, in a list that breaks no rule, of which one is
+    chosen by the arrow keys or the mouse."""
+    carpal, limb = page.codes["carpal"], page.codes["limb"]
+    for width, scheme in LOOKS:
+        page.browser.width(width, width != DESK)
+        page.browser.media(scheme=scheme)
+        page.open(TYPING)
+        page.tab_to("q")
+        page.is_so("before anything is typed", "combobox()", ["combobox", "listbox", False, ""])
+        page.browser.write("bone frac")
+        page.is_so("what is suggested", "suggested()", [carpal, limb])
+        page.browser.press("ArrowUp")
+        page.holds("what is suggested")
+        page.is_so("the last one", "combobox()", ["combobox", "listbox", True, limb])
+    for key, chosen in (("ArrowDown", ""), ("ArrowDown", carpal), ("ArrowDown", limb),
+                        ("ArrowUp", carpal)):
+        page.browser.press(key)
+        page.is_so(key, "combobox()", ["combobox", "listbox", True, chosen])
+    page.browser.press("Escape")
+    page.is_so("a list that was closed", "combobox()", ["combobox", "listbox", False, ""])
+    page.is_so("the field of a closed list", TYPED, "bone frac")
+    page.browser.press("ArrowDown")
+    page.is_so("a list that was opened again", "suggested()", [carpal, limb])
+    page.browser.value("document.querySelector('#found li').click()")
+    page.is_so("what was clicked", TYPED, carpal)
+    page.browser.value("document.getElementById('q').select()")
+    page.browser.write("LIMB bone")
+    page.is_so("what is suggested then", "suggested()", [limb])
+    for key, chosen in (("ArrowDown", limb), ("Enter", "")):
+        page.browser.press(key)
+        page.is_so(key, "combobox()", ["combobox", "listbox", bool(chosen), chosen])
+    page.is_so("what was chosen", TYPED, limb)
+    page.go("the record that was chosen", "Fracture of bone of upper limb (disorder)")
 
 
 def uploaded(page: Page) -> None:

@@ -3,6 +3,7 @@ after the other. bench/trials/try_answers.py does it too."""
 
 import datetime
 import http.client
+import itertools
 import json
 import random
 import subprocess
@@ -19,10 +20,12 @@ from sctd_service.gateway import limits
 from .fixtures import (
     EDITION, FHIR_JSON, SCT, SECONDS, Gateway, Json, begun_hub, parts_of, told, with_hyphens)
 from .release_files import (
-    DEFINED, FULLY_SPECIFIED, FURTHER, IS_A, REFSET, Row, Rows, Snapshot, read)
+    DEFINED, FULLY_SPECIFIED, FURTHER, IS_A, REFERENCED, REFSET, Row, Rows, Snapshot, read,
+    words_in)
 
 # Of each day.
 LOOKUPS, VALIDATIONS, SUBSUMPTIONS, EXPANSIONS, TRANSLATIONS = 240, 60, 36, 18, 28
+SEARCHES = 170
 LARGEST_EXPANSION = 900
 CASE_INSENSITIVE, INITIAL_CASE_INSENSITIVE = "900000000000448009", "900000000000020002"
 SAME_AS, REPLACED_BY = "900000000000527005", "900000000000526001"
@@ -58,6 +61,10 @@ class Comparison:
         self.rows, self.chance, self.counts = rows, random.Random(seed), Counter[str]()
         self.languages, self.with_sets = languages, with_sets
         self.concepts, self.days = rows.concepts(), rows.days()
+        # Of the terms that are searched; none stand for all.
+        spoken = {row[0]: row[5] for row in rows.by_kind["D"]}
+        self.spoken = {spoken[row[REFERENCED]] for row in rows.by_kind["M"]
+                       if row[REFSET] in languages and row[REFERENCED] in spoken}
 
     def ask(self, path: str, **words: Any) -> tuple[int, Json]:
         return self.asked_by("GET", "%s?%s" % (path, urlencode(words)))
@@ -81,17 +88,21 @@ class Comparison:
     def version(self, day: str) -> str:
         return "%s/%s/version/%s" % (SCT, self.edition, day)
 
-    def day(self) -> str:
-        """A day of the later releases, or the one before it."""
-        day = self.chance.choice(self.days[len(self.days) // 2 :])
-        before = datetime.datetime.strptime(day, "%Y%m%d") - datetime.timedelta(days=1)
+    def days_asked(self) -> list[str]:
+        """The days of the later releases and those before them, in any order."""
+        days = self.days[len(self.days) // 2 :]
+        before = [datetime.datetime.strptime(day, "%Y%m%d") - datetime.timedelta(days=1)
+                  for day in days]
         # (Of days before the first one nothing is known.)
-        return self.chance.choice([day, max(before.strftime("%Y%m%d"), self.days[0])])
+        found = {*days, *(max(day.strftime("%Y%m%d"), self.days[0]) for day in before)}
+        return self.chance.sample(sorted(found), len(found))
 
     def run(self, answers: int) -> None:
         """Compares day by day until so many answers were alike."""
-        while self.counts.total() < answers:
-            self.compare(self.day())
+        for day in itertools.cycle(self.days_asked()):
+            self.compare(day)
+            if self.counts.total() >= answers:
+                break
 
     def compare(self, day: str) -> None:
         snapshot = Snapshot(self.rows, day)
@@ -108,7 +119,8 @@ class Comparison:
         tops = [code for code in known if 1 < len(snapshot.within(code)) < LARGEST_EXPANSION]
         for top in self.chance.sample(tops, min(EXPANSIONS, len(tops))):
             self.expand(snapshot, top)
-            self.expand_with_a_filter(snapshot, top)
+        for _ in range(SEARCHES if tops else 0):
+            self.search(snapshot, self.chance.choice(["", self.chance.choice(tops)]))
         retired = sorted(snapshot.about["A"].keys() & snapshot.concepts.keys())
         for number, code in enumerate(self.chance.sample(retired, min(TRANSLATIONS, len(retired)))):
             self.translate(snapshot, code, (SAME_AS, REPLACED_BY)[number % 2])
@@ -229,24 +241,59 @@ class Comparison:
                    {code: self.display(snapshot, code) for code in members}, *where)
         self.counts["$expand"] += 1
 
-    def expand_with_a_filter(self, snapshot: Snapshot, top: str) -> None:
-        members = snapshot.within(top) & snapshot.concepts.keys()
-        terms = [row[7] for code in sorted(members) for row in snapshot.names(code)]
-        if not terms:
+    def search(self, snapshot: Snapshot, top: str) -> None:
+        """Some words in all concepts or in those within one, of which a page is asked for; and what
+        the page for people suggests."""
+        text, chance = self.words_of_a_term(snapshot), self.chance
+        rows = snapshot.with_words(text)
+        within = snapshot.within(top) if top else snapshot.concepts.keys()
+        wanted = self.found(snapshot, [row for row in rows if row[4] in within])
+        offset, count = chance.choice([0, 0, 1, 20]), chance.choice([1, 10, 100, 1000])
+        url = "%s?fhir_vs%s" % (self.version(snapshot.day), "=isa/" + top if top else "")
+        status, said = self.ask(
+            "ValueSet/$expand", url=url, filter=text, offset=offset, count=count)
+        where = (text, top, offset, count, snapshot.day)
+        is_many = status == 422 and len(rows) > limits.FILTER_TERMS
+        known = 422 if is_many else 200 if words_in(text) else 400
+        self.alike("status of a search", status, known, *where)
+        if status != 200:
             return
-        text = self.chance.choice(terms)[: self.chance.randint(3, 9)].strip()
-        status, said = self.ask("ValueSet/$expand", filter=text, count=1000,
-                                url="%s?fhir_vs=isa/%s" % (self.version(snapshot.day), top))
-        if status == 422:
-            every = (row for code in snapshot.concepts for row in snapshot.names(code))
-            count = sum(row[7].casefold().startswith(text.casefold()) for row in every)
-            self.alike("$expand refused", count > limits.FILTER_TERMS, True, text, snapshot.day)
-            self.counts["$expand refused, too many terms"] += 1
-            return
-        self.alike(
-            "$expand filter", {one["code"] for one in said["expansion"].get("contains", [])},
-            {code for code in members if snapshot.begins(code, text)}, top, snapshot.day, text)
-        self.counts["$expand with a filter"] += 1
+        contains = said["expansion"].get("contains", [])
+        self.alike("search", [(one["code"], "inactive" not in one) for one in contains],
+                   [(code, is_active) for code, _, is_active in wanted][offset : offset + count],
+                   *where)
+        total = said["expansion"].get("total", str(len(wanted)))
+        self.alike("total", total, str(len(wanted)), *where)
+        self.counts["search"] += 1
+        if not top:
+            suggested = self.suggested(snapshot.day, text)
+            self.alike("suggest", suggested, wanted[: limits.SUGGESTED_CONCEPTS], *where)
+            self.counts["search on the page"] += 1
+
+    def words_of_a_term(self, snapshot: Snapshot) -> str:
+        """The beginnings of some words of a term, in any order and case, with marks or without."""
+        chance = self.chance
+        names = snapshot.names(chance.choice(snapshot.described))
+        term = chance.choice(names)[7] if names else chance.choice("abcdef")
+        words = chance.choice([term.split(), words_in(term)])
+        words = [word[: chance.randint(1, 6)] for word in words]
+        text = " ".join(chance.sample(words, min(len(words), chance.choice([1, 2, 2, 3, 4]))))
+        return chance.choice([text, text.upper(), text.title(), "(%s)" % text.replace(" ", ", ")])
+
+    def found(self, snapshot: Snapshot, rows: list[Row]) -> list[tuple[str, str, bool]]:
+        """The concepts of names, active ones first, each with the first one's term."""
+        terms: dict[str, str] = {}
+        for row in rows:
+            if row[4] in snapshot.concepts and (not self.spoken or row[5] in self.spoken):
+                terms.setdefault(row[4], row[7])
+        found = [(code, term, snapshot.concepts[code][2] == "1") for code, term in terms.items()]
+        return sorted(found, key=lambda one: not one[2])
+
+    def suggested(self, day: str, text: str) -> list[tuple[str, str, bool]]:
+        words = urlencode({"text": text, "date": with_hyphens(day)})
+        self.connection.request("GET", "%s/suggest?%s" % (self.base, words))
+        said = json.loads(self.connection.getresponse().read())
+        return [(one["code"], one["term"], one["active"]) for one in said]
 
     def translate(self, snapshot: Snapshot, code: str, refset: str) -> None:
         said = self.ask("ConceptMap/$translate", url="%s?fhir_cm=%s" % (SCT, refset), system=SCT,

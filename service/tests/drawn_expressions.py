@@ -1,6 +1,7 @@
 """Draws expressions of ECL over the codes of drawn releases."""
 
 import random
+from collections.abc import Mapping, Sequence
 from decimal import Decimal
 
 from sctd_service.gateway.ecl import syntax as s
@@ -11,6 +12,15 @@ from .drawn_releases import ASSOCIATIONS, DAYS, MODEL, TEXT_DEFINITION, Maker
 
 OPERATORS = ("<", "<<", "<!", "<<!", ">", ">>", ">!", ">>!", "!!>", "!!<")
 EQUALITIES, ORDERS = ("=", "=", "=", "!="), ("=", "!=", "<", "<=", ">", ">=")
+# What is asked of terms, by how they are compared. Some have no word that begins one.
+TERMS_ASKED = {
+    "match": ("a", "heart frac", "FRA", "strass", "ode", "4.5 b1", "mg", "racture", "-", "mg a"),
+    "wild": ("*cu*", "fracture*", "*heart", "* of *", "STRASSE", "*", "", "f*e of h*t", "*12* mg*"),
+    "exact": ("acute", "Acute", "\u00d6dem", "Odem", "B12 4.5 mg/mL", "")}
+# The same of concrete values.
+VALUES_ASKED = {
+    "match": ("tab", "oral", "tab oral", "Tablet", "x"), "wild": ("tablet", "*t*b*", "x"),
+    "exact": ("tablet", "Oral tablet", "x")}
 # What none of the releases has.
 ABSENT = "73211009"
 
@@ -119,12 +129,15 @@ class Draw:
             return s.Number(Decimal(number))
         if what > 0.95:
             return s.Truth(self.chance.random() < 0.5)
-        match self.chance.choice(["match", "wild", "exact"]):
-            case "match" as how:
-                texts = self.chance.choice([("tab",), ("oral", "x"), ("tab oral",), ("Tablet",)])
-            case how:
-                texts = self.chance.choice([("tablet",), ("Oral tablet", "x"), ("*t*b*", "x")])
-        return s.Text(how, texts)
+        return self.text(VALUES_ASKED)
+
+    def text(self, asked: Mapping[str, Sequence[str]]) -> s.Text:
+        """One text or two, as a rule compared in the same way."""
+        hows = [self.chance.choice([*asked])] * 2
+        if self.chance.random() < 0.2:
+            hows = self.chance.choices([*asked], k=2)
+        typed = [(how, self.chance.choice(asked[how])) for how in hows]
+        return s.Text(tuple(typed[: self.chance.choice([1, 1, 2])]))
 
     def attribute(self, depth: int, may_be_reverse: bool) -> s.Attribute:
         is_reverse = may_be_reverse and self.chance.random() < 0.35
@@ -153,7 +166,7 @@ class Draw:
             return s.Filter("active", self.chance.choice(EQUALITIES), truth)
         if what == 1:
             return self.one_of("moduleId", (CORE, MODEL), (CORE,), (MODEL,))
-        day = s.Text("match", (self.chance.choice(DAYS),))
+        day = s.Text((("match", self.chance.choice(DAYS)),))
         return s.Filter("effectiveTime", self.chance.choice(ORDERS), day)
 
     def concept_filter(self) -> s.Filter:
@@ -163,7 +176,9 @@ class Draw:
         return self.common_filter()
 
     def description_filter(self) -> s.Filter:
-        what = self.chance.randrange(5)
+        what = self.chance.randrange(7)
+        if what > 4:
+            return self.term_filter()
         if what == 0:
             kinds = (FULLY_SPECIFIED,), (SYNONYM, TEXT_DEFINITION), (FULLY_SPECIFIED, SYNONYM)
             return self.one_of("typeId", *kinds)
@@ -179,12 +194,15 @@ class Draw:
         own = own if any(own) else ()
         return s.Filter(found.name, found.comparison, found.value, how, own)
 
+    def term_filter(self) -> s.Filter:
+        return s.Filter("term", self.chance.choice(EQUALITIES), self.text(TERMS_ASKED))
+
     def member_filter(self) -> s.Filter:
         what, comparison = self.chance.randrange(6), self.chance.choice(EQUALITIES)
         if what == 0:
             text = self.chance.choice(["J45", "J45.9", "A01*", "*b*"])
             how = self.chance.choice(["match", "wild", "exact"])
-            return s.Filter("mapTarget", comparison, s.Text(how, (text,)))
+            return s.Filter("mapTarget", comparison, s.Text(((how, text),)))
         if what == 1:
             number = s.Number(Decimal(self.chance.choice([1, 2, 3])))
             name = self.chance.choice(["mapPriority", "mapGroup"])

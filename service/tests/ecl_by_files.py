@@ -4,7 +4,6 @@ It shares the tree of an expression with the gateway and nothing else: no set th
 whole, no question of the program."""
 
 import functools
-import unicodedata
 from collections import defaultdict
 from collections.abc import Iterable, Iterator
 from dataclasses import is_dataclass
@@ -12,6 +11,8 @@ from decimal import Decimal
 from pathlib import Path
 
 from sctd_service.gateway.ecl import syntax as s
+
+from .release_files import plain, words_in
 
 IS_A = "116680003"
 LETTERS = {"sct2_Concept_": "C", "sct2_Description_": "D", "sct2_TextDefinition_": "D",
@@ -263,8 +264,8 @@ class ByFiles:
         if f.name != "effectiveTime":
             return text_fits(said, value) == is_equal
         if f.comparison in ("=", "!="):
-            return (said in value.texts) == is_equal
-        return ordered(Decimal(said), f.comparison, Decimal(value.texts[0]))
+            return any(said == day for _, day in value.typed) == is_equal
+        return ordered(Decimal(said), f.comparison, Decimal(value.typed[0][1]))
 
 
 def within(count: int, cardinality: s.Cardinality) -> bool:
@@ -276,23 +277,14 @@ def ordered(a: Decimal, sign: str, b: Decimal) -> bool:
     return {"=": a == b, "!=": a != b, "<": a < b, "<=": a <= b, ">": a > b, ">=": a >= b}[sign]
 
 
-def plain(text: str) -> str:
-    apart = unicodedata.normalize("NFD", text.casefold())
-    return "".join(letter for letter in apart if unicodedata.category(letter) != "Mn")
-
-
-def words_in(text: str) -> list[str]:
-    return "".join(letter if letter.isalnum() else " " for letter in plain(text)).split()
-
-
 def text_fits(said: str, wanted: s.Text) -> bool:
-    for text in wanted.texts:
-        if wanted.how == "exact" and said == text:
+    for how, text in wanted.typed:
+        if how == "exact" and said == text:
             return True
-        if wanted.how == "match" and all(
+        if how == "match" and all(
                 any(word[: len(one)] == one for word in words_in(said)) for one in words_in(text)):
             return True
-        if wanted.how == "wild" and is_like(plain(said), plain(text)):
+        if how == "wild" and is_like(plain(said), plain(text)):
             return True
     return False
 

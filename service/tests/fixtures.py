@@ -126,7 +126,7 @@ class Service:
     releases are whole packages, if that is wanted."""
 
     def __init__(self, is_recorded: bool = False, layout: int = 3, is_whole: bool = False,
-                 words: Sequence[str] = ()) -> None:
+                 words: Sequence[str] = (), hub_words: Sequence[str] = ()) -> None:
         self.program, self.hub_script = program_and_hub()
         self.folder = tempfile.TemporaryDirectory()
         root = Path(self.folder.name)
@@ -137,6 +137,7 @@ class Service:
         self.codes: dict[str, str] = demo.make(self.releases)
         self.make_store(*demo_releases.RELEASES)
         self.hub: subprocess.Popen[str] | None = None
+        self.hub_words = hub_words
         self.start_hub()
         self.recorder = Recorder(str(root / "recorded"), self.questions) if is_recorded else None
         asked = self.recorder.path if self.recorder else self.questions
@@ -153,7 +154,7 @@ class Service:
     def start_hub(self) -> None:
         sockets = ("--socket", self.socket, "--questions", self.questions)
         words = (self.hub_script, self.program, self.store, str(self.releases), *sockets)
-        self.hub = begun_hub(*words)
+        self.hub = begun_hub(*words, *self.hub_words)
 
     def asked(self, line: str) -> str:
         """The last line of the reply to a line on the hub's own socket, or without a hub that of
@@ -197,9 +198,9 @@ class Service:
 
 
 def begun_hub(hub: str, program: str, store: str, releases: str,
-              *sockets: str) -> "subprocess.Popen[str]":
-    """Starts a hub with these sockets, and waits until it answers."""
-    words = ["--program", program, "--store", store, "--releases", releases, *sockets]
+              *options: str) -> "subprocess.Popen[str]":
+    """Starts a hub with these options, and waits until it answers."""
+    words = ["--program", program, "--store", store, "--releases", releases, *options]
     begun = subprocess.Popen([sys.executable, hub, *words], stdout=subprocess.PIPE, text=True)
     assert begun.stdout is not None
     assert begun.stdout.readline() == "OK ready\n"

@@ -1,6 +1,8 @@
 """A release's own files, read without the program: what they say of a day. Those of a package have
 text definitions, and members (M) of all reference sets but those of associations."""
 
+import functools
+import unicodedata
 from collections.abc import Iterable
 from pathlib import Path
 from typing import NamedTuple
@@ -46,6 +48,7 @@ class Snapshot:
                 if row[2] == "1":
                     self.about[kind].setdefault(row[column], []).append(row)
         self.concepts = latest(rows.by_kind["C"], day)
+        self.described = sorted(self.about["D"])
         self.above = self.all_above()
         self.below: dict[str, set[str]] = {}
         for code, above in self.above.items():
@@ -76,8 +79,24 @@ class Snapshot:
     def names(self, code: str) -> list[Row]:
         return [row for row in self.terms(code) if row[6] != TEXT_DEFINITION]
 
-    def begins(self, code: str, text: str) -> bool:
-        return any(row[7].casefold().startswith(text.casefold()) for row in self.names(code))
+    @functools.cached_property
+    def names_by_word(self) -> dict[str, list[Row]]:
+        """The names of concepts, by each of their words."""
+        found: dict[str, list[Row]] = {}
+        for code in self.described:
+            for row in self.names(code):
+                for word in set(words_in(row[7])):
+                    found.setdefault(word, []).append(row)
+        return found
+
+    def with_words(self, text: str) -> list[Row]:
+        """The names in which for each word of a text a word begins with it, the shortest first."""
+        found: dict[str, Row] | None = None
+        for wanted in words_in(text):
+            own = {row[0]: row for word, rows in self.names_by_word.items()
+                   if word.startswith(wanted) for row in rows}
+            found = {name: row for name, row in own.items() if found is None or name in found}
+        return sorted((found or {}).values(), key=lambda row: (len(row[7]), int(row[0])))
 
     def members(self, refset: str, component: str) -> list[Row]:
         """The active members of a reference set that refer to a component, by their ids."""
@@ -95,6 +114,17 @@ class Snapshot:
             (row for row in self.terms(code) if row[6] == SYNONYM), key=lambda row: int(row[0]))
         return [row[7] for row in synonyms
                 if any(one[FURTHER] == PREFERRED for one in self.members(refset, row[0]))]
+
+
+def plain(text: str) -> str:
+    """Without case, and without the marks that letters may bear."""
+    apart = unicodedata.normalize("NFD", text.casefold())
+    return "".join(letter for letter in apart if unicodedata.category(letter)[0] != "M")
+
+
+def words_in(text: str) -> list[str]:
+    """The longest runs of letters and digits."""
+    return "".join(letter if letter.isalnum() else " " for letter in plain(text)).split()
 
 
 def latest(rows: Iterable[Row], day: str) -> dict[str, Row]:

@@ -122,7 +122,20 @@ TABLE = (
     ("* {{ D type = def }}", LATEST, ""),
     ("$wrist {{ D type = def, dialectId = 900000000000509007 (prefer) }}", LATEST, "wrist"),
     ("$wrist {{ D active = 0, language = en }}", LATEST, "wrist"),
-    ("$limb {{ D id = $limb-name }}", LATEST, "limb"))
+    ("$limb {{ D id = $limb-name }}", LATEST, "limb"),
+    ("* {{ term = \"wri frac\" }}", BEFORE, "wrist"),
+    ("* {{ term = \"wri frac\" }}", LATEST, ""),
+    ("<< $injury {{ D term = match:\"DIST radi\", type = fsn }}", LATEST, "radius radius2"),
+    ("<< $injury {{ term = (\"carpal\" \"limb\") }}", LATEST, "injury limb carpal"),
+    ("<< $injury {{ term = (match:\"carp\" wild:\"*limb*\") }}", LATEST, "injury limb carpal"),
+    ("<< $injury {{ term != \"fracture\" }}", LATEST, "injury"),
+    ("<< $injury {{ term = wild:\"fracture of*radius*\" }}", LATEST, "radius radius2"),
+    ("<< $injury {{ term = wild:\"*stal*\" }}", LATEST, "radius radius2"),
+    ("<< $injury {{ term = exact:\"Distal radius fracture\" }}", LATEST, "radius"),
+    ("<< $injury {{ term = exact:\"distal radius fracture\" }}", LATEST, ""),
+    ("<< $injury {{ term = \"upper\", active = 0 }}", LATEST, "limb"),
+    ("* {{ term = \"handgelenk\", language = de }}", BEFORE, "wrist"),
+    ("* {{ term = \"break wrist\", type = def }}", BEFORE, "wrist"))
 # What isn't an expression, and at which letter it ends to be one.
 MISSPELT = (
     ("", 1),
@@ -147,6 +160,9 @@ MISSPELT = (
     ("* {{ C effectiveTime = \"2020\" }}", 8),
     ("* {{ C effectiveTime > (\"20200101\" \"20210101\") }}", 8),
     ("* {{ D type = name }}", 8),
+    ("* {{ D term = #5 }}", 8),
+    ("* {{ term = true }}", 6),
+    ("* {{ term > \"wrist\" }}", 6),
     ("* {{ D dialect = en-gb (best) }}", 25),
     ("* {{ C active = 1 (prefer) }}", 19),
     ("* {{ D type = (fsn (prefer)) }}", 8),
@@ -156,12 +172,9 @@ MISSPELT = (
     ("(" * (limits.EXPRESSION_DEPTH + 1), limits.EXPRESSION_DEPTH + 1),
     ("descendantOf $limb", 1))
 UNANSWERED = (
-    ("* {{ term = \"wrist\" }}", "term filters aren't answered yet"),
-    ("* {{ D language = en, term = wild:\"w*\" }}", "term filters aren't answered yet"),
     ("LOINC#54486-6", "alternate identifiers"),
     ("^ [a, b] $set", "one field"),
     ("^ [*] $set", "one field"),
-    ("* : $unit = (match:\"a\" wild:\"b\")", "different ways"),
     ("^ $ctv3 {{ M mapTraget = \"X\" }}", "called mapTraget"),
     ("^ [mapTarget] 900000000000527005", "called mapTarget"),
     ("^ $never", "no members of the reference set"),
@@ -204,6 +217,12 @@ EXAMPLES = """
 < 373873005 : 859999999102 |Trade name| = "PANADOL"
 < 373873005 : 859999999102 = ("PANADOL" "TYLENOL")
 < 373873005 : 859999999102 |In national list| = true
+< 64572001 |Disease| {{ term = "heart att" }}
+< 64572001 |Disease| {{ term != "heart att" }}
+< 64572001 |Disease| {{ term = wild:"cardi*opathy" }}
+< 64572001 |Disease| {{ term = ("heart" "card") }}
+< 64572001 |Disease| {{ term = ( match:"gas" wild:"*itis" ) }}
+< 64572001 |Disease| {{ D term = match:"heart att", language = en }} {{ term = "card" }}
 < 56265001 {{ D language = es }}
 < 56265001 {{ D type = syn }} {{ D dialect = en-nhs-clinical (prefer) }}
 < 56265001 {{ dialectId = (900000000000508004 |GB| 900000000000509007 |US|) (preferred) }}

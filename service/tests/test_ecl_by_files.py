@@ -6,6 +6,7 @@ import random
 import subprocess
 import tempfile
 from collections import Counter
+from dataclasses import is_dataclass
 from pathlib import Path
 
 import pytest
@@ -17,7 +18,7 @@ from sctd_service.gateway.ecl.spelling import spelled
 from sctd_service.gateway.ecl.terminology import Terminology
 from sctd_service.gateway.pool import Pool
 from sctd_service.gateway.problems import Problem
-from sctd_service.gateway.store import View
+from sctd_service.gateway.store import TooManyTerms, View
 
 from .drawn_expressions import Draw
 from .drawn_releases import DAYS, RELEASES, Maker
@@ -30,8 +31,9 @@ OF_ONE_STORE = 1_000
 ASKED = (*DAYS, "20200801", "20210101", "20211231", "20991231")
 # So many are asked beside each other.
 AT_A_TIME = 25
+FEW_TERMS = 20
 SIZES = {"ASKED_UPWARDS": (0, 3, 40), "ASKED_ONE_BY_ONE": (0, 10, 1000),
-         "QUESTION_ROWS": (20, 100, 1000, 1000)}
+         "QUESTION_ROWS": (20, 100, 1000, 1000), "FILTER_TERMS": (FEW_TERMS, 10_000)}
 NO_FIELD = "no reference set there has a field"
 # How many of each have to be among them.
 AT_LEAST = {"some": 1500, "none": 450}
@@ -106,17 +108,28 @@ async def one_compared(drawn: Drawn, pool: Pool, tree: s.Expression, day: str, p
     assert among in (None, wanted & some), (text, day, pin, some, among)
     if None in (found, among):
         # What is asked first decides whether such a part is asked at all.
-        assert files.asks_no_column(tree), (text, day, pin)
+        is_many = limits.FILTER_TERMS == FEW_TERMS and asks_terms_of_all(tree)
+        assert is_many or files.asks_no_column(tree), (text, day, pin)
         counts["refused"] += 1
     else:
         counts["some" if wanted else "none"] += 1
 
 
+def asks_terms_of_all(tree: object) -> bool:
+    """Whether a part has a filter of the terms of any concept."""
+    if isinstance(tree, s.Filtered) and isinstance(tree.focus, s.Wildcard):
+        if "term" in [one.name for one in tree.filters]:
+            return True
+    parts = tree if isinstance(tree, tuple) else vars(tree).values() if is_dataclass(tree) else ()
+    return any(map(asks_terms_of_all, parts))
+
+
 async def answered(view: View, day: str, expression: s.Expression,
                    among: s.Ids | None) -> s.Ids | None:
-    """What the gateway says, or None where it refuses a column."""
+    """What the gateway says, or None where it refuses a column, or many terms of any concept."""
     try:
         return await Evaluation(Terminology(view, day)).meant(expression, among)
     except Problem as problem:
-        assert NO_FIELD in problem.text, (expression, problem.text)
+        is_many = isinstance(problem, TooManyTerms)
+        assert is_many or NO_FIELD in problem.text, (expression, problem.text)
         return None

@@ -35,12 +35,11 @@ def large_service(own_service: Service) -> Service:
             maker.term(code, DAY, "%d %s" % (number, letter * TERM_LETTERS))
     maker.concept("page", DAY, "Page of concepts")
     for number in range(limits.PAGE_CONCEPTS):
-        # Two terms of each, so that as many begin alike as a filter may find.
         terms = ("Of the page %d" % number, "Of the page, the %d" % number)
         maker.concept("of page %d" % number, DAY, *terms, parents=("page",))
     maker.concept("walk", DAY, "Walk of concepts")
     for number in range(limits.WALK_CONCEPTS):
-        maker.concept("of walk %d" % number, DAY, "Of the walk %d" % number, parents=("walk",))
+        maker.concept("of walk %d" % number, DAY, term_of_walk(number), parents=("walk",))
     maker.write(service.releases / "large")
     service.codes = maker.codes
     service.stop_hub()
@@ -48,6 +47,13 @@ def large_service(own_service: Service) -> Service:
         "import", "--quiet", "--store", service.store, str(service.releases / "large" / "d3"))
     service.start_hub()
     return service
+
+
+def term_of_walk(number: int) -> str:
+    """As many terms have the word `many` as a filter may find, and `more` has one more."""
+    words = [""] + ["many"] * (number < limits.FILTER_TERMS)
+    words += ["more"] * (number <= limits.FILTER_TERMS)
+    return "Of the walk %d%s" % (number, " ".join(words))
 
 
 class TestLargeAnswers(Asked):
@@ -86,13 +92,36 @@ class TestLargeAnswers(Asked):
         assert (status, said["expansion"]["total"]) == (200, 11)
 
     def test_more_terms_than_a_filter(self) -> None:
-        status, said = self.expand("page", filter="of the page", count=1)
-        assert (status, said["expansion"]["total"]) == (200, limits.PAGE_CONCEPTS)
-        status, said = self.expand("walk", filter="of the page", count=1)
+        status, said = self.expand("walk", filter="walk many", count=0)
+        assert (status, said["expansion"]["total"]) == (200, limits.FILTER_TERMS)
+        status, said = self.expand("page", filter="walk many", count=1)
         assert (status, said["expansion"]["total"]) == (200, 0)
-        for name in ("walk", ""):
-            status, said = self.expand(name, filter="of the walk")
-            assert (status, issue(said)) == (422, "too-costly")
+        asked: list[dict[str, int]] = [
+            {"count": 0}, {"offset": limits.FILTER_TERMS, "count": 2}, {}]
+        for words in asked:
+            status, said = self.expand("walk", filter="walk more", **words)
+            assert (status, issue(said)) == (422, "too-costly"), words
+
+    def test_more_terms_than_an_expression(self) -> None:
+        """The descriptions of few concepts are asked for; of any concept it is refused."""
+        below = "<< %s" % self.codes["page"]
+        for focus, text, known in (
+                (below, "walk more", (200, 0)), (below, "page", (200, limits.PAGE_CONCEPTS + 1)),
+                ("*", "walk many", (200, limits.FILTER_TERMS)), ("*", "walk more", (422, None))):
+            url = "%s?fhir_vs=ecl/%s {{ term = \"%s\" }}" % (SCT, focus, text)
+            status, said = self.gateway.fhir("ValueSet/$expand", url=url, count=0)
+            assert (status, said.get("expansion", {}).get("total")) == known, (focus, text)
+        assert "terms have the words of" in said["issue"][0]["diagnostics"]
+
+    def test_no_more_terms_are_read_than_a_page_needs(self) -> None:
+        """So it isn't known how many there are."""
+        for offset in (0, 1_500):
+            status, said = self.expand("", filter="walk more", offset=offset, count=20)
+            wanted = sorted(
+                range(limits.FILTER_TERMS + 1), key=lambda number: len(term_of_walk(number)))
+            assert [one["code"] for one in said["expansion"]["contains"]] == [
+                self.codes["of walk %d" % number] for number in wanted[offset : offset + 20]]
+            assert (status, "total" in said["expansion"]) == (200, False)
 
     def test_answers_that_nobody_takes(self) -> None:
         """Many answers that wait to be taken are refused from some number on, small ones never.

@@ -47,11 +47,11 @@ class TestLines:
             reader = asyncio.StreamReader()
             writer = cast(asyncio.StreamWriter, SimpleNamespace(write=lambda data: None))
             connection = hub.Connection(reader, writer, sockets.Identity(0, 0, 0))
-            reader.feed_data(b"END 0\nERR 14 LaterVersion\n")
+            reader.feed_data(b"END 0\nERR 16 NotKept\n")
             later = asyncio.get_running_loop().call_later
             later(0.05, reader.feed_data, b"DATE 20200131\nEND 1\n")
-            with pytest.raises(HubRefused, match="LaterVersion"):
-                await connection.ask(["DATES", "VALUES", "DATES"])
+            with pytest.raises(HubRefused, match="NotKept"):
+                await connection.ask(["DATES", "WORDS", "DATES"])
             later(0.1, reader.feed_data, b"OK 7\n")
             return await connection.ask(["PIN"])
 

@@ -128,10 +128,32 @@ class TestDisplays(Whole):
         found = self.gateway.fhir(EXPAND, url=SCT + "?fhir_vs", filter="a break of bones")
         assert found[1]["expansion"]["total"] == 0
         assert self.gateway.send("GET", "/suggest?text=a+break").text == "[]"
-        assert "No term begins" in self.gateway.send("GET", "/?q=A+break").text
+        assert "No concept has a term" in self.gateway.send("GET", "/?q=A+break").text
+
+
+    def test_languages_that_are_searched(self) -> None:
+        """Those of the house, and the one that is asked for."""
+        for text, tag, names in (
+                ("handgelenk", "", ""), ("handgelenk", "en-GB", ""), ("handgelenk", "de", "wrist"),
+                ("wrist frac", "", "wrist"), ("wrist frac", "de", "wrist")):
+            words = {"displayLanguage": tag} if tag else {}
+            said = self.gateway.fhir(
+                EXPAND, url=SCT + "?fhir_vs", filter=text, date="2018-01-01", **words)[1]
+            found = [one["code"] for one in said["expansion"].get("contains", [])]
+            assert found == self.named(*names.split()), (text, tag)
+        assert self.gateway.send("GET", "/suggest?text=handgelenk").text == "[]"
 
 
 class TestTags:
+    @pytest.mark.parametrize("tags, house, wanted", (
+        ("de", (demo.US, demo.GB), "de en"), ("*", (demo.US, demo.GERMAN), "de en"),
+        ("fr-CH, *", (demo.GB,), "en fr"), ("de", (), ""), ("de", (demo.GB, demo.CTV3), "")))
+    def test_languages_that_are_searched(self, tags: str, house: tuple[str, ...],
+                                         wanted: str) -> None:
+        """All of them where the house has none, or one whose language isn't known."""
+        asked = languages.language_of(tags, house)
+        assert sorted(languages.searched_in(asked, house)) == wanted.split()
+
     @pytest.mark.parametrize("tag, house, code, refsets_of", (
         ("en", (), "en", (demo.US, demo.GB)),
         ("en", (demo.GB,), "en", (demo.GB,)),
@@ -273,7 +295,7 @@ class TestRefsets(Whole):
 
     def test_filter(self) -> None:
         assert self.in_set(filter="fracture of wrist") == self.named("wrist")
-        assert self.in_set(filter="fracture of carpal") == []
+        assert self.in_set(filter="carpal fracture") == []
         # Before it was remembered, of a day that nobody asked of.
         words = {"system_version": SCT + "|" + version("20200202"), "filter": "fracture of"}
         assert self.in_set(**words) == self.named("limb")
@@ -510,6 +532,23 @@ class TestWithoutMembers:
         request.addfinalizer(service.end)
         self.compared(service)
         assert "layout" not in service.gateway.told()
+
+    def test_a_store_without_words(self, request: pytest.FixtureRequest) -> None:
+        """What is searched is refused with a sentence, and all else is answered."""
+        service = Service(is_whole=True, words=demo.WORDS, hub_words=["--without-words"])
+        request.addfinalizer(service.end)
+        fhir, send, code = service.gateway.fhir, service.gateway.send, service.codes["wrist"]
+        term = "<< %s {{ term = \"fracture\" }}" % service.codes["finding"]
+        for words in ({"url": SCT + "?fhir_vs", "filter": "fracture"},
+                      {"url": SCT + "?fhir_vs=ecl/" + term}):
+            status, said = fhir(EXPAND, **words)
+            assert (status, issue(said)) == (422, "not-supported")
+            assert "without its words" in said["issue"][0]["diagnostics"]
+        for target in ("/?q=fracture", "/suggest?text=fracture"):
+            answer = send("GET", target)
+            assert answer.status == 422 and "without its words" in answer.text, target
+        assert fhir(LOOKUP, system=SCT, code=code)[0] == send("GET", "/?q=" + code).status == 200
+        assert fhir(EXPAND, url="%s?fhir_vs=isa/%s" % (SCT, code))[0] == 200
 
     def test_a_layout_without_members(self, request: pytest.FixtureRequest) -> None:
         """What needs members is refused with a sentence, and all else is answered."""

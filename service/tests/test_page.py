@@ -3,20 +3,23 @@
 import asyncio
 import json
 import re
-from collections.abc import Iterable, Sequence
+from collections.abc import AsyncIterator, Iterable, Sequence
 from urllib.parse import urlencode
 
 import pytest
 from make_release import sctid
 from sctd_service.gateway import limits
+from sctd_service.gateway.fhir.versions import Edition
+from sctd_service.gateway.page import Search, results
 from sctd_service.gateway.page_history import Names, changes
 from sctd_service.gateway.page_record import Side, replacements, told_first
-from sctd_service.snomed import IS_A, Association, Concept, Language, Relationship
-from sctd_service.gateway.store import ANY, AnyRow, View
+from sctd_service.snomed import (
+    IS_A, SYNONYM, Association, Concept, Description, Language, Relationship)
+from sctd_service.gateway.store import ANY, AnyRow, Terms, View
 
 from .asked import Asked
 from .demo_releases import REPLACED_BY
-from .fixtures import version
+from .fixtures import EDITION, version
 
 
 class Chain(View):
@@ -40,6 +43,22 @@ class Chain(View):
     async def names(self, codes: Iterable[str], day: str,
                     language: Language = ANY) -> dict[str, str]:
         return {code: code for code in codes}
+
+
+class Named(View):
+    """A store in which each concept has one term, and all are found."""
+
+    def __init__(self, codes: list[str]) -> None:
+        self.codes, self.days, self.latest = codes, ["20200101"], "20200101"
+
+    async def with_words(self, text: str, day: str, wanted: int = 0) -> AsyncIterator[Terms]:
+        row = ("1", day, "1", "1")
+        found = [Description(*row, code, "en", SYNONYM, code, "1") for code in self.codes]
+        yield Terms(found, True)
+
+    async def concepts(self, codes: Sequence[str], day: str,
+                       keep: bool = True) -> list[Concept | None]:
+        return [Concept(one, "20200101", "1", "1", "1") for one in codes]
 
 
 # Markup that only a text of the store or of a client could have brought.
@@ -302,12 +321,50 @@ class TestPage(Asked):
         assert 'value="123"' in text and 'id="concept"' in text
         assert 'value=""' in self.gateway.send("GET", "/?q=%ff").text
 
+    def found(self, text: str) -> list[tuple[str, str]]:
+        """The concepts that a page of a search has, each with its term."""
+        entries = re.findall(r'<li><a href="\?q=([0-9]+)&[^>]*><bdi>([^<]*)</bdi>', text)
+        return [(code, term) for code, term in entries]
+
     def test_search_and_suggest(self) -> None:
-        assert "5 terms begin" in self.page(q="FRACTURE", date="2021-06-01")[1]
-        assert "No term begins" in self.page(q="nothing such")[1]
-        said = self.gateway.send("GET", "/suggest?text=fract&date=2021-06-01")
-        found = {one["code"]: one["active"] for one in json.loads(said.body)}
-        assert (found[self.codes["wrist"]], found[self.codes["limb"]]) == (False, True)
+        """Active concepts are first, each with the shortest term that has the words."""
+        assert "2 concepts have a term with" in self.page(q="FRACTURE dis", date="2020-06-01")[1]
+        assert "1 concept has a term with" in self.page(q="carp", date="2021-06-01")[1]
+        assert "No concept has a term with" in self.page(q="nothing such")[1]
+        text = self.page(q="frac (dis", date="2021-06-01")[1]
+        assert self.found(text) == [
+            (self.codes[name], term) for name, term in (
+                ("radius", "Distal radius fracture"),
+                ("carpal", "Fracture of carpal bone (disorder)"),
+                ("limb", "Fracture of bone of upper limb (disorder)"),
+                ("wrist", "Fracture of wrist joint region (disorder)"))]
+        assert "4 concepts have a term with" in text and text.count(">inactive<") == 1
+        told = json.loads(self.gateway.send("GET", "/suggest?text=dis+frac&date=2021-06-01").body)
+        assert [(one["code"], one["term"]) for one in told] == self.found(text)
+        assert [one["active"] for one in told] == [True, True, True, False]
+
+    def test_pages_of_a_search(self, monkeypatch: pytest.MonkeyPatch) -> None:
+        """As many concepts as a page has, and where there are more a link to the next ones."""
+        monkeypatch.setattr(limits, "RESULT_CONCEPTS", 2)
+        codes = [str(sctid(9_000 + number, "00")) for number in range(6)]
+        for first, said in (
+                (0, "These are concepts 1 to 2 that have"), (2, "These are concepts 3 to 4 that"),
+                (4, "These are concepts 5 to 6 that have"), (6, "No further concept has a term")):
+            search = Search(Edition(EDITION), "some words", "20200101", "", first)
+            text = asyncio.run(results(Named(codes), search)).content
+            assert said in text, first
+            assert [code for code, _ in self.found(text)] == codes[first : first + 2]
+            links = re.findall(r'<a href="\?([^"]*)">Next page</a>', text)
+            more = "q=some+words&amp;date=2020-01-01&amp;first=%d" % (first + 2)
+            assert links == [more] * (first < 3)
+        assert "These are concepts 2 to" in self.page(q="fracture", first="1")[1]
+        for wrong in ("-1", "x", "\u0663", "123456"):
+            assert self.page(q="fracture", first=wrong)[0] == 400, wrong
+
+    def test_what_has_no_word(self) -> None:
+        for target in ("/?q=%25+-", "/suggest?text=%25+-"):
+            answer = self.gateway.send("GET", target)
+            assert answer.status == 400 and "no letter and no digit" in answer.text, target
 
     def test_wrong_words(self) -> None:
         for words, status in (

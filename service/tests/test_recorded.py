@@ -42,7 +42,7 @@ LINES = [
         f"{AT}TIMELINE [DRVAM] {CODE}",
         f"{AT}PAGE C {DAY} {AFTER} {COUNT}",
         f"{AT}PAGE M {DAY} - 1",
-        f"{AT}SEARCH {DAY} {AFTER} {COUNT} [^\\x00-\\x1f\\x7f-\\x9f]{{1,200}}",
+        f"{AT}WORDS {DAY} - [0-9]{{1,5}} {COUNT} [^\\x00-\\x1f\\x7f-\\x9f]{{1,200}}",
     )
 ]
 

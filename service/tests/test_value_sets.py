@@ -76,10 +76,28 @@ class TestExpand(Asked):
         assert (found, said["total"]) == ([], 4)
 
     def test_filter(self) -> None:
-        found = self.expanded(self.isa("injury"), filter="FRACTURE of d", activeOnly="true")[0]
+        found = self.expanded(self.isa("injury"), filter="FRACTURE of dista", activeOnly="true")[0]
         assert found == [self.codes["radius2"]]
         assert self.expanded(self.isa("drug"), filter="fracture")[0] == []
         assert self.expanded("", filter="fracture of wrist j")[0] == [self.codes["wrist"]]
+
+    @pytest.mark.parametrize("text, date, names", (
+        ("frac rad DIST", "2022-07-31", "radius2 radius"),
+        ("radi\u0301us-fr\u00e0cture", "2021-06-01", "radius"),
+        ("of of bone", "2022-07-31", "carpal limb bone"),
+        ("wri", "2018-01-01", "wrist body vague"),
+        ("500 mg", "2022-07-31", "drug"),
+        ("fractured", "2022-07-31", ""),
+        ("racture", "2022-07-31", "")))
+    def test_words(self, text: str, date: str, names: str) -> None:
+        """In any order, without case and marks: the shortest terms first, but active concepts
+        before all others, each once."""
+        found, said = self.expanded("", filter=text, date=date)
+        assert found == [self.codes[name] for name in names.split()]
+        assert said["total"] == len(found)
+        pages = [self.expanded("", filter=text, date=date, offset=at, count=1) for at in range(4)]
+        assert [page for page, _ in pages] == [found[at : at + 1] for at in range(4)]
+        assert {one["total"] for _, one in pages} == {len(found)}
 
     def test_designations(self) -> None:
         said = self.expanded(
@@ -122,6 +140,7 @@ class TestExpand(Asked):
             ("", {"filter": "a\u2028b"}, 400),
             ("", {"filter": "a\u0085b"}, 400),
             ("", {"filter": " "}, 400),
+            ("", {"filter": "% -"}, 400),
             ("", {"filter": "x" * 201}, 400),
             ("", {"activeOnly": "yes"}, 400))
         for what, words, status in cases:
@@ -133,7 +152,7 @@ class TestExpand(Asked):
         assert fhir("ValueSet/$expand")[0] == 400
 
     @pytest.mark.parametrize("text", (
-        "%", "a b  c", "\u00e9\u4e2d\U0001f600" * 60, "PIN 1", "x" * 200))
+        "% a", "a b  c", "\u00e9\u4e2d\U0001f600" * 60, "PIN 1", "x" * 200))
     def test_filter_that_no_line_of_the_hub_can_split(self, text: str) -> None:
         assert self.ask("", filter=text)[0] == 200, text
 

@@ -3,18 +3,18 @@
 //! `get KIND ID DATE` asks for the component's row at the date, `versions KIND ID`, `replacements
 //! ID DATE`, `replaces ID DATE`, `about KIND ID DATE`, `timeline KIND ID`, `page KIND DATE AFTER
 //! LIMIT`, `delta KIND FROM DATE AFTER LIMIT`, `members REFSET DATE AFTER LIMIT`, `values REFSET
-//! DATE AFTER LIMIT`, `called ID DATE REFSET`, `terms DATE LIMIT "PREFIX"` and `search DATE AFTER
-//! LIMIT "PREFIX"` ask for rows, `children ID DATE`, `descendants ID DATE` and `ancestors ID DATE`
-//! for identifiers, as `sources TYPE ID DATE AFTER LIMIT` does, and `dates` for days. `rows KIND ID
-//! DATE LIMIT` asks for all rows of a kind behind a key. AFTER is a number or `-`, as are TYPE and
-//! both ID and DATE of a key.
+//! DATE AFTER LIMIT`, `called ID DATE REFSET`, `terms DATE LIMIT "PREFIX"`, `search DATE AFTER LIMIT
+//! "PREFIX"` and `words DATE TYPE OFFSET LIMIT "TEXT"` ask for rows, `children ID DATE`,
+//! `descendants ID DATE` and `ancestors ID DATE` for identifiers, as `sources TYPE ID DATE AFTER
+//! LIMIT` does, and `dates` for days. `rows KIND ID DATE LIMIT` asks for all rows of a kind behind a
+//! key. AFTER is a number or `-`, as are TYPE and both ID and DATE of a key.
 
 use crate::words::{above, component_above, day_of, kind_of, number, sctid_of};
 use case_files::NoAnswer;
 use rf2_rows::{EffectiveTime, Key, Kind, Sctid};
 use std::alloc::Global;
 
-/// A question, without the prefix that it searches for.
+/// A question, without the prefix or the text that it searches for.
 #[derive(Clone, Copy)]
 pub enum Question {
     Get(Kind, u128, EffectiveTime),
@@ -30,6 +30,7 @@ pub enum Question {
     Called(Sctid, EffectiveTime, Sctid),
     Terms(EffectiveTime, u32),
     Search(EffectiveTime, Option<u128>, u32),
+    Words(EffectiveTime, Option<Sctid>, u32, u32),
     Children(Sctid, EffectiveTime),
     Descendants(Sctid, EffectiveTime),
     Ancestors(Sctid, EffectiveTime),
@@ -105,15 +106,29 @@ fn ask_of_refset(word: &str, words: &[&str]) -> Result<Question, NoAnswer> {
     }
 }
 
+/// Reads a type, or `-` for any type.
+fn type_of(word: &str) -> Result<Option<Sctid>, NoAnswer> {
+    match word {
+        "-" => Ok(None),
+        word => Ok(Some(sctid_of(word)?)),
+    }
+}
+
+/// Reads a question for descriptions by the words of their terms.
+fn ask_for_words(words: &[&str]) -> Result<Question, NoAnswer> {
+    let [date, wanted_type, offset, limit] = words else {
+        return Err(NoAnswer::NoQuestion);
+    };
+    let (date, wanted_type) = (day_of(*date)?, type_of(*wanted_type)?);
+    Ok(Question::Words(date, wanted_type, number(*offset)?, number(*limit)?))
+}
+
 /// Reads a question for the sources of relationships.
 fn ask_for_sources(words: &[&str]) -> Result<Question, NoAnswer> {
     let [type_id, id, date, after, limit] = words else {
         return Err(NoAnswer::NoQuestion);
     };
-    let type_id = match *type_id {
-        "-" => None,
-        word => Some(sctid_of(word)?),
-    };
+    let type_id = type_of(*type_id)?;
     let (id, date) = (sctid_of(*id)?, day_of(*date)?);
     Ok(Question::Sources(type_id, id, date, component_above(*after)?, number(*limit)?))
 }
@@ -155,6 +170,7 @@ fn question_of(word: &str, words: &[&str]) -> Result<Question, NoAnswer> {
         ("delta", _) => ask_for_delta(words),
         ("members" | "values" | "called", _) => ask_of_refset(word, words),
         ("sources", _) => ask_for_sources(words),
+        ("words", _) => ask_for_words(words),
         ("rows", _) => ask_for_rows(words),
         ("dates", 0) => Ok(Question::Dates),
         ("terms", 2) | ("search", 3) => ask_for_terms(words),

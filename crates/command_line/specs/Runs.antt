@@ -39,7 +39,7 @@ use Rattle.command_line.specs.Copies.{IsCopyMade}
 -- for one that is only read, and all others for one that exists
 abbrev pub mode_of : Action → Mode
 mode_of (actions.Init layout) = OpenOrMake
-mode_of (actions.Use (works.Serve folder true)) = OpenToRead
+mode_of (actions.Use (works.Serve folder true words)) = OpenToRead
 mode_of action = Open
 
 -- the outcome says that the disk of a name can't be opened
@@ -76,7 +76,7 @@ IsCopiedTo {D} host view before asked to imports layout source after made report
 -- whether the folder of releases exists without which the work isn't begun: only a server that may
 -- import needs one
 abbrev pub FindsFolder : {D : Type 0} → HostView D → Work → Bool → Type 0
-FindsFolder host (works.Serve folder false) found = host.finds folder.now found
+FindsFolder host (works.Serve folder false words) found = host.finds folder.now found
 FindsFolder host work found = found ≡ true
 
 -- The store on this disk was opened, and the work was done. If the work needs a folder that doesn't

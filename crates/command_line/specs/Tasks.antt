@@ -1,9 +1,11 @@
 -- What is done with a store.
 use Rattle.std.specs.Prelude.{◌≡◌, ◌↔◌, ◌≤◌, ℕ, List, [], ◌++◌, codes, decimal, Option, Some, None}
-use Rattle.std.specs.Prelude.{Bool, true, false, Result, Ok, Err}
+use Rattle.std.specs.Prelude.{Bool, true, false, Result, Ok, Err, IfOk}
 use Rattle.directory.specs.declared.layout.Layout.{Layout}
 use Rattle.directory.specs.declared.layout.Layout.TheVariants as layouts
 use Rattle.disk_model.specs.View.{DiskView}
+use Rattle.segment_index.specs.declared.words.Words.{Words}
+use Rattle.segment_index.specs.declared.words.Words.TheVariants as kept
 use Rattle.history_store.specs.StoreValue.{StoreValue}
 use Rattle.history_store.specs.Answers.{StoreOr, disk_of}
 use Rattle.history_store.specs.Openings.{IsMaking, IsOpening}
@@ -117,12 +119,12 @@ IsWorkTold host view (works.Merge segments) store left report =
     IsMergeTold view segments store left report
 IsWorkTold host view (works.Digest imports) store left report =
     IsLineTold no_releases view (digest_line imports) store left report
-IsWorkTold host view (works.Serve folder read_only) store left report = ⊥
+IsWorkTold host view (works.Serve folder read_only words) store left report = ⊥
 
 -- what work does with an open store: only `serve` reads the input
 abbrev pub IsWorkDone : {D : Type 0} → HostView D → (D → DiskView) → Work → StoreValue D → D
     → Result Ending ServeFault → Streams → Type 0
-IsWorkDone host view (works.Serve folder read_only) store left ended streams =
+IsWorkDone host view (works.Serve folder read_only words) store left ended streams =
     IsInputServed (held_of read_only) (source_in host folder.now) view store left ended streams
 IsWorkDone host view work store left ended streams =
     IsWorkTold host view work store left (report ended streams.old streams.new)
@@ -138,11 +140,18 @@ OnStore does (Err e) left ended streams =
     Tells (report ended streams.old streams.new) (Err (Store e.0))
     × (streams.rest ≡ streams.input) × (left ≡ e.1)
 
--- the store was opened from this disk, and the work was done with it
+-- whether the work needs the words of the store: a server does, unless they are to be left out
+abbrev pub words_for : Work → Words
+words_for (works.Serve folder read_only words) = words
+words_for work = kept.LeftOut
+
+-- the store was opened from this disk, with words if the work needs them, and the work was done
+-- with it
 pub record IsWorkOnDisk {D : Type 0} (host : HostView D) (view : D → DiskView) (work : Work)
     (disk left : D) (ended : Result Ending ServeFault) (streams : Streams) : Type 0 where
   pub had : StoreOr D
   pub opening : IsOpening had view disk
+  pub words : IfOk had (λ store. store.words ≡ words_for work)
   pub does : OnStore (IsWorkDone host view work) had left ended streams
 
 -- a store of layout 3 was made on this disk, and the lines were served from it

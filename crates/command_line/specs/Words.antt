@@ -1,17 +1,19 @@
 -- Which task the words of the command line ask for. Words are parsed as clap parses them for these
 -- commands.
-use Rattle.std.specs.Prelude.{◌≡◌, ◌↔◌, ℕ, Bool, true, List, codes, option_map, Option, Some, None}
+use Rattle.std.specs.Prelude.{◌≡◌, ◌↔◌, ℕ, Bool, true, List, map, codes, option_map, Option, Some, None}
 use Rattle.clap.specs.Walk.{Text, Row, Rule, first_of}
 use Rattle.clap.specs.Simple.{App, new_rule, new_app, with_rule, with_subcommand, subcommand_of}
 use Rattle.clap.specs.Kinds.{IsAmong}
 use Rattle.clap.specs.Faults.{fault_of}
 use Rattle.std.specs.Str.Parse.{digits_value, without_leading_plus}
 use Rattle.clap.specs.Values.{kind_of}
-use Rattle.clap.specs.declared.builder.value_parser.ValueParser.TheVariants.{Unsigned}
+use Rattle.clap.specs.declared.builder.value_parser.ValueParser.{ValueParser}
+use Rattle.clap.specs.declared.builder.value_parser.ValueParser.TheVariants.{Unsigned, Names}
 use Rattle.clap.specs.declared.builder.action.ArgAction.TheVariants.{Set, SetTrue}
 use Rattle.std.specs.Prelude.{[], ◌∷◌, false}
 use Rattle.directory.specs.declared.layout.Layout.{Layout}
 use Rattle.directory.specs.Listings.{number_of}
+use Rattle.segment_index.specs.declared.words.Words.TheVariants as kept
 use Rattle.command_line.specs.Paths.{IsNamed}
 use Rattle.command_line.specs.declared.words.Task.{Task}
 use Rattle.command_line.specs.declared.words.Task.TheVariants as tasks
@@ -53,10 +55,19 @@ abbrev pub init_command : App
 init_command =
     with_rule (with_rule (new_app (codes "init")) (option (codes "store"))) layout_option
 
-abbrev pub serve_command : App
-serve_command = with_rule (with_rule
+-- a value is the word `words`, and no other
+abbrev pub TakesWords : ValueParser → Type 0
+TakesWords (Names names) = map (λ name. name.now) names.now ≡ codes "words" ∷ []
+TakesWords parser = ⊥
+
+-- the option `--without` of `serve`, with such a value
+abbrev pub without_option : ValueParser → Rule
+without_option parser = record (optional (codes "without")) { parser = Some parser }
+
+abbrev pub serve_command : ValueParser → App
+serve_command parser = with_rule (with_rule (with_rule
     (with_rule (new_app (codes "serve")) (option (codes "store"))) (option (codes "releases")))
-    (flag (codes "read-only"))
+    (flag (codes "read-only"))) (without_option parser)
 
 abbrev pub import_command : App
 import_command = with_rule (with_rule
@@ -105,11 +116,11 @@ empty_program = record {
   subs = [];
 }
 
-abbrev pub program : App
-program =
+abbrev pub program : ValueParser → App
+program parser =
     with_subcommand (with_subcommand (with_subcommand (with_subcommand (with_subcommand
     (with_subcommand (with_subcommand (with_subcommand empty_program
-    init_command.top) import_command.top) serve_command.top) status_command.top) merge_command.top)
+    init_command.top) import_command.top) (serve_command parser).top) status_command.top) merge_command.top)
     copy_command.top) digest_command.top) demo_command.top
 
 -- ---- what is asked for
@@ -142,9 +153,10 @@ IsWork command rows (works.Import folder name quiet) = (command ≡ codes "impor
     × NamesRelease rows folder.now name.now quiet × (IsGivenFlag (codes "check") rows → ⊥)
 IsWork command rows (works.Check folder name quiet) = (command ≡ codes "import")
     × NamesRelease rows folder.now name.now quiet × IsGivenFlag (codes "check") rows
-IsWork command rows (works.Serve releases read_only) =
+IsWork command rows (works.Serve releases read_only words) =
     (command ≡ codes "serve") × (first_of (codes "releases") rows ≡ Some releases.now)
     × ((read_only ≡ true) ↔ IsGivenFlag (codes "read-only") rows)
+    × ((words ≡ kept.LeftOut) ↔ (first_of (codes "without") rows ≡ Some (codes "words")))
 IsWork command rows works.Status = command ≡ codes "status"
 IsWork command rows (works.Merge segments) =
     (command ≡ codes "merge") × IsNumber (codes "segments") rows (Some segments)
@@ -169,9 +181,11 @@ Reads (Some read) tasks.Demo = read.0 ≡ codes "demo"
 
 -- the words, whose first is the program's name, are valid and ask for the task
 abbrev pub AskFor : List Text → Task → Type 0
-AskFor words task = (fault_of program words ≡ []) × Reads (subcommand_of program words) task
+AskFor words task = (parser : ValueParser) × TakesWords parser
+    × (fault_of (program parser) words ≡ []) × Reads (subcommand_of (program parser) words) task
 
 -- why the words ask for no task; memory may run out
 abbrev pub AskForNone : List Text → Refused → Type 0
 AskForNone words refusals.OutOfMemory = Unit {0}
-AskForNone words (refusals.Words error) = IsAmong (kind_of error) (fault_of program words)
+AskForNone words (refusals.Words error) = (parser : ValueParser) × TakesWords parser
+    × IsAmong (kind_of error) (fault_of (program parser) words)

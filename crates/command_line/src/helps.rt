@@ -37,6 +37,8 @@ Questions, of the latest version of each component up to a date:
   0 CHILDREN 138875005 20210131  the concepts with an active \"is a\" to this one
   0 TERMS 20210131 10 we         at most 10 active descriptions that begin with \"we\"
   0 SEARCH 20210131 - 10 we      the same; an id in place of - gives those behind it
+  0 WORDS 20210131 - 0 10 pa wa  at most 10 whose words begin so, in any order, the
+                                 shortest terms first; 0 is how many are passed over
   0 REPLACED 1000004 20210131    the active associations of the component
   0 ABOUT D 1000004 20210131     the active rows of a kind (D, R, V, A, M) about it
   0 PAGE C 20210131 - 100        at most 100 rows of the kind, from the first id on

@@ -3,7 +3,7 @@
 ghost use Rattle.std.specs.Prelude.{◌≡◌, ◌≤◌, ◌⊎◌, ℕ, map, string_bytes};
 ghost use Rattle.line_server.specs.Streams.{streams};
 ghost use Rattle.command_line.specs.Endings.{report};
-ghost use Rattle.command_line.specs.Tasks.{IsWorkDone, IsWorkOnDisk, held_of};
+ghost use Rattle.command_line.specs.Tasks.{IsWorkDone, IsWorkOnDisk, held_of, words_for};
 ghost use Rattle.command_line.specs.Hosts.{MakesAsBefore};
 ghost use Rattle.command_line.specs.declared.host.Mode.TheVariants.{Open};
 ghost use Rattle.command_line.specs.Runs.{Does, IsActionDone, IsMadeAt, FindsFolder, IsUsed};
@@ -29,7 +29,7 @@ use crate::told_lines::ToldLines;
 use crate::words::{Action, Refused, Task, Work, task_of};
 use directory::Layout;
 use disk_model::MemDisk;
-use history_store::{Refusal, Store};
+use history_store::{Refusal, Store, Words};
 use line_commands::import_request;
 use line_server::{Held, LineRefusal, ServeFault};
 use std::alloc::Global;
@@ -200,6 +200,7 @@ fn has_folder<H: Host, E: Write>(host: &H, work: &Work<'_>, faults: &mut E) -> b
         Work::Serve {
             releases,
             read_only: false,
+            ..
         } => host.has_folder(*releases, faults),
         _ => true,
     }
@@ -227,6 +228,16 @@ fn use_at<H: Host, I: Read, O: Write, E: Write>(
     }
 }
 
+/// Whether the work needs the words of the store: a server does, unless they are to be left out.
+fn words_for(work: &Work<'_>) -> Words
+    ensures { result ≡ words_for work.now }
+{
+    match work {
+        Work::Serve { words, .. } => *words,
+        _ => Words::LeftOut,
+    }
+}
+
 /// Opens the store of a disk, and works with it.
 fn open_and_work<H: Host, I: Read, O: Write, E: Write>(
     host: &H,
@@ -242,7 +253,7 @@ fn open_and_work<H: Host, I: Read, O: Write, E: Write>(
         (streams (I.remaining input.old) (I.remaining input.new)
         (O.contents output.old) (O.contents output.new)) }
 {
-    match Store::open(alloc, disk) {
+    match Store::open(alloc, disk, words_for(work)) {
         Ok(store) => {
             let mut store = store;
             let ended = do_work(host, alloc, path, work, &mut store, input, output, faults);
@@ -303,6 +314,7 @@ fn do_work<'a, H: Host, I: Read, O: Write, E: Write>(
         Work::Serve {
             releases,
             read_only,
+            ..
         } => {
             let mut source = FolderSource::new(host, *releases, faults, "importing", true);
             serve_all(

@@ -6,7 +6,7 @@ ghost use Rattle.command_line.specs.Tasks.{IsInputServed, IsServingNew};
 
 use crate::endings::{Ending, refuse};
 use disk_model::Disk;
-use history_store::{Layout, Store};
+use history_store::{Layout, Store, Words};
 use line_server::{Held, ServeFault, Source, serve};
 use std::alloc::Global;
 use std::io::{Read, Write};
@@ -47,7 +47,7 @@ pub(crate) fn serve_new<D: Disk + Drop, S: Source, I: Read, O: Write>(
         (streams (I.remaining input.old) (I.remaining input.new)
         (O.contents output.old) (O.contents output.new)) }
 {
-    match Store::create(alloc, disk, Layout::Three) {
+    match Store::create(alloc, disk, Layout::Three, Words::Kept) {
         Ok(store) => {
             let mut store = store;
             let ended = serve_all(alloc, source, &mut store, input, output, Held::Nothing);

@@ -1,7 +1,7 @@
 //! Parses the command line.
 
-ghost use Rattle.std.specs.Prelude.{◌≡◌, ◌↔◌, true, IfOk, IfErr, IfSome, map, codes};
-ghost use Rattle.std.specs.Prelude.{string_bytes};
+ghost use Rattle.std.specs.Prelude.{◌≡◌, ◌↔◌, true, IfOk, IfErr, IfSome, Some, map};
+ghost use Rattle.std.specs.Prelude.{codes, string_bytes};
 ghost use Rattle.clap.specs.Matches.{found_of};
 ghost use Rattle.clap.specs.Simple.{new_app, subcommand_rows_of};
 ghost use Rattle.clap.specs.Walk.{rows_of};
@@ -12,6 +12,10 @@ ghost use Rattle.command_line.specs.Words.{wanted, option, optional, flag, segme
 ghost use Rattle.command_line.specs.Words.{init_command, import_command, serve_command};
 ghost use Rattle.command_line.specs.Words.{status_command, merge_command, demo_command};
 ghost use Rattle.command_line.specs.Words.{layout_option, copy_layout_option};
+ghost use Rattle.command_line.specs.Words.{TakesWords, without_option};
+ghost use Rattle.clap.specs.Walk.{first_of};
+ghost use Rattle.clap.specs.declared.builder.value_parser.ValueParser.{ValueParser};
+ghost use Rattle.segment_index.specs.declared.words.Words.TheVariants as kept;
 ghost use Rattle.command_line.specs.Words.{copy_command, digest_command, imports_option};
 ghost use Rattle.command_line.specs.Words.{empty_program, program};
 
@@ -21,6 +25,7 @@ use clap::builder::ValueParser;
 use clap::error::ErrorKind;
 use clap::{Arg, ArgAction, ArgMatches, Command, Error};
 use directory::Layout;
+use history_store::Words;
 use std::alloc::{AllocError, Global};
 
 /// The version of the program, and the layouts of stores that it opens.
@@ -71,10 +76,12 @@ pub enum Work<'a> {
         quiet: bool,
     },
     /// Answer the lines of the input. Releases are folders below `releases`. If `read_only`, no line
-    /// changes the store, and other programs may read its file meanwhile.
+    /// changes the store, and other programs may read its file meanwhile. `words` says whether the
+    /// words of terms are kept, by which descriptions are found.
     Serve {
         releases: &'a str,
         read_only: bool,
+        words: Words,
     },
     /// Write the numbers of imports, rows and segments.
     Status,
@@ -191,6 +198,19 @@ fn read_only<'a>(alloc: Global) -> Arg<'a>
         .action(ArgAction::SetTrue)
 }
 
+/// The option to serve lines without what takes time to open and memory.
+fn without<'a>(alloc: Global) -> Arg<'a>
+    ensures { (parser : ValueParser) × TakesWords parser
+        × IsArgument (without_option parser) result }
+{
+    Arg::new(alloc, "without")
+        .long("without")
+        .value_name("WHAT")
+        .help("Opens in less time and memory, and refuses WORDS")
+        .value_parser(ValueParser::Names(&["words"]))
+        .action(ArgAction::Set)
+}
+
 /// The argument for a release: its name or its path.
 fn name<'a>(alloc: Global) -> Arg<'a>
     ensures { IsArgument (wanted (codes "name")) result }
@@ -293,13 +313,15 @@ fn import<'a>(alloc: Global) -> Result<Command<'a>, AllocError>
 }
 
 fn serve<'a>(alloc: Global) -> Result<Command<'a>, AllocError>
-    ensures { IfOk result (IsCommand serve_command) }
+    ensures { IfOk result (λ command. (parser : ValueParser) × TakesWords parser
+        × IsCommand (serve_command parser) command) }
 {
     let about = "Answers the lines of standard input on standard output";
     new_command(alloc, "serve", about, helps::SERVE)
         .arg(store(alloc))?
         .arg(releases(alloc))?
-        .arg(read_only(alloc))
+        .arg(read_only(alloc))?
+        .arg(without(alloc))
 }
 
 fn status<'a>(alloc: Global) -> Result<Command<'a>, AllocError>
@@ -361,7 +383,8 @@ fn sctd<'a>(alloc: Global) -> Command<'a>
 
 /// All commands, with their helps.
 fn commands<'a>(alloc: Global) -> Result<Command<'a>, AllocError>
-    ensures { IfOk result (IsCommand program) }
+    ensures { IfOk result (λ command. (parser : ValueParser) × TakesWords parser
+        × IsCommand (program parser) command) }
 {
     sctd(alloc)
         .subcommand(init(alloc)?)?
@@ -416,6 +439,7 @@ fn work_in<'a>(command: &str, found: &ArgMatches<'a>) -> Option<Work<'a>>
         "serve" => Some(Work::Serve {
             releases: found.get_str("releases")?,
             read_only: is_set(found, "read-only"),
+            words: words_of(found),
         }),
         "status" => Some(Work::Status),
         "merge" => Some(Work::Merge {
@@ -475,12 +499,32 @@ fn layout_of(found: &ArgMatches<'_>) -> Option<Option<Layout>>
     }
 }
 
-/// Whether a flag was given.
+/// Whether this value was given.
+fn has_value(found: &ArgMatches<'_>, id: &str, value: &str) -> bool
+    ensures { (result ≡ true)
+        ↔ (first_of id.now (rows_of (found_of found.now)) ≡ Some value.now) }
+{
+    match found.get_str(id) {
+        Some(text) => text == value,
+        None => false,
+    }
+}
+
+/// Whether the flag was given.
 fn is_set(found: &ArgMatches<'_>, id: &str) -> bool
     ensures { (result ≡ true) ↔ IsGivenFlag id.now (rows_of (found_of found.now)) }
 {
-    match found.get_str(id) {
-        Some(text) => text == "true",
-        None => false,
+    has_value(found, id, "true")
+}
+
+/// Whether words are kept: always, unless they are to be left out.
+fn words_of(found: &ArgMatches<'_>) -> Words
+    ensures { (result ≡ kept.LeftOut)
+        ↔ (first_of (codes "without") (rows_of (found_of found.now)) ≡ Some (codes "words")) }
+{
+    if has_value(found, "without", "words") {
+        Words::LeftOut
+    } else {
+        Words::Kept
     }
 }

@@ -4,14 +4,14 @@
 //!   of COUNT lists, to which the rows are dealt in turn, the last one first, and `dates DATE ..`
 //!   of a list for each of these dates; each prints how many lists the index has. From then on the
 //!   index is asked too.
-//! - `merge 1-2 3-3 COUNT` posts the terms and links of one list, which are merged from those of
-//!   two ranges of imports in steps of COUNT, and `link twice` posts the links of the first list of
-//!   rows, twice each. Both print how many lists are posted.
-//! - `posted COUNT` posts the terms and links of the first COUNT lists only, `post 1-1 ..` those of
-//!   other lists, and `link NUMBER ..` the links of these rows of the first list, and they print
-//!   the same; `read 1-1 ..` lets other lists be read, and prints how many; `put I J 4-5` replaces
-//!   two lists by the rows of a range, and prints how many lists the index then has. From then on
-//!   only the index is asked.
+//! - `merge 1-2 3-3 COUNT` posts the terms, words and links of one list, which are merged from
+//!   those of two ranges of imports in steps of COUNT, and `link twice` posts the links of the first
+//!   list of rows, twice each. Both print how many lists are posted.
+//! - `posted COUNT` posts the terms, words and links of the first COUNT lists only, `post 1-1 ..`
+//!   those of other lists, and `link NUMBER ..` the links of these rows of the first list, and they
+//!   print the same; `read 1-1 ..` lets other lists be read, and prints how many; `put I J 4-5`
+//!   replaces two lists by the rows of a range, and prints how many lists the index then has. From
+//!   then on only the index is asked.
 //! - `cut COUNT` keeps the terms of the first list's first COUNT postings, and `put-links I J` lets
 //!   the links of list J take the place of those of list I and their own: only the index is asked
 //!   then. `put-list I J` lets the list do so. They print how many lists' links there are.
@@ -55,7 +55,7 @@ fn prefix_of(alloc: Global, text: &str) -> Answer {
     }
 }
 
-/// Posts the merged terms and links of two ranges of imports as those of one list.
+/// Posts the merged terms, words and links of two ranges of imports as those of one list.
 fn merge(
     alloc: Global,
     rows: &[StampedRow],

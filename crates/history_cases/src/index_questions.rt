@@ -12,8 +12,9 @@ use links::{
 use rf2_values::Row;
 use std::alloc::{AllocError, Global};
 use term_prefix::{Search, find};
+use term_words::WordSearch;
 
-/// A question and a pin, without the prefix that is searched for.
+/// A question and a pin, without the prefix or the text that is searched for.
 #[derive(Clone, Copy)]
 pub struct Request {
     pub question: Question,
@@ -104,6 +105,15 @@ pub fn rows_found<R: RowReader>(
         Question::Search(date, after, limit) => {
             let as_of = AsOf { date, pin };
             search(alloc, made, reader, prefix, as_of, (after, limit))
+        }
+        Question::Words(date, wanted_type, offset, limit) => {
+            let asked = WordSearch {
+                as_of: AsOf { date, pin },
+                wanted_type: wanted_type.map(|id| id.value()),
+                offset,
+                limit,
+            };
+            term_words::find(alloc, &made.words, index, reader, prefix, &asked)
         }
         Question::AllRows(kind, after, limit) => {
             index.rows_of_kind(reader, kind, after, limit, pin)

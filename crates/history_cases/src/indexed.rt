@@ -10,6 +10,7 @@ use rf2_values::EffectiveTime;
 use segment::RowPlace;
 use std::alloc::{AllocError, Global};
 use term_prefix::Terms;
+use term_words::WordLists;
 
 /// Lists of rows, the index of their places, and the postings of their terms and links.
 #[derive(Drop)]
@@ -17,7 +18,16 @@ pub struct Indexed {
     pub lists: Vec<Vec<StampedRow>>,
     pub index: Index,
     pub terms: Terms,
+    pub words: WordLists,
     pub links: Links,
+}
+
+/// Postings of one list of rows.
+#[derive(Drop)]
+pub struct Posted {
+    pub terms: term_prefix::Sealed,
+    pub words: term_words::Sealed,
+    pub links: links::Sealed,
 }
 
 /// The places of the rows of a list.
@@ -83,6 +93,15 @@ pub fn post_terms(alloc: Global, rows: &[StampedRow]) -> Result<term_prefix::Pos
     Ok(postings)
 }
 
+/// The postings of the words of a list.
+pub fn post_words(alloc: Global, rows: &[StampedRow]) -> Result<term_words::Sealed, AllocError> {
+    let mut postings = term_words::Postings::new(alloc);
+    for (number, stamped) in (0u32..).zip(rows) {
+        postings.push(stamped, number)?;
+    }
+    postings.seal()
+}
+
 /// The postings of the links of a list.
 pub fn post_links(alloc: Global, rows: &[StampedRow]) -> Result<links::Postings, AllocError> {
     let mut postings = links::Postings::new(alloc);
@@ -102,6 +121,18 @@ fn terms_of(alloc: Global, lists: &[Vec<StampedRow>]) -> Result<Terms, NoAnswer>
         terms.add(post_terms(alloc, rows)?.seal());
     }
     Ok(terms)
+}
+
+/// The words of some lists.
+fn words_of(alloc: Global, lists: &[Vec<StampedRow>]) -> Result<WordLists, NoAnswer> {
+    let mut words = WordLists::new(alloc)?;
+    for rows in lists {
+        if words.lists() >= MAX_LISTS {
+            return Err(NoAnswer::NoQuestion);
+        }
+        words.add(post_words(alloc, rows)?);
+    }
+    Ok(words)
 }
 
 /// The links of some lists.
@@ -237,11 +268,13 @@ impl Indexed {
     /// The index and the postings of some lists.
     pub fn new(alloc: Global, lists: Vec<Vec<StampedRow>>) -> Result<Indexed, NoAnswer> {
         let (terms, links) = (terms_of(alloc, &lists)?, links_of(alloc, &lists)?);
+        let words = words_of(alloc, &lists)?;
         let index = index_of(alloc, &lists)?;
         Ok(Indexed {
             lists,
             index,
             terms,
+            words,
             links,
         })
     }
@@ -250,7 +283,9 @@ impl Indexed {
     pub fn post_front(&mut self, alloc: Global, count: usize) -> Result<(), NoAnswer> {
         let front = self.lists.get(..count).ok_or(NoAnswer::NoQuestion)?;
         let (terms, links) = (terms_of(alloc, front)?, links_of(alloc, front)?);
+        let words = words_of(alloc, front)?;
         self.terms = terms;
+        self.words = words;
         self.links = links;
         Ok(())
     }
@@ -258,20 +293,25 @@ impl Indexed {
     /// Replaces the postings by those of other lists.
     pub fn post_lists(&mut self, alloc: Global, lists: &[Vec<StampedRow>]) -> Result<(), NoAnswer> {
         self.terms = terms_of(alloc, lists)?;
+        self.words = words_of(alloc, lists)?;
         self.links = links_of(alloc, lists)?;
         Ok(())
     }
 
     /// Replaces the postings by those of one list.
-    pub fn post_merged(
-        &mut self,
-        alloc: Global,
-        posted: (term_prefix::Sealed, links::Sealed),
-    ) -> Result<(), AllocError> {
+    pub fn post_merged(&mut self, alloc: Global, posted: Posted) -> Result<(), AllocError> {
         let (mut terms, mut links) = (Terms::new(alloc)?, Links::new(alloc)?);
-        terms.add(posted.0);
-        links.add(posted.1);
+        let mut words = WordLists::new(alloc)?;
+        let Posted {
+            terms: own_terms,
+            words: own_words,
+            links: own_links,
+        } = posted;
+        terms.add(own_terms);
+        words.add(own_words);
+        links.add(own_links);
         self.terms = terms;
+        self.words = words;
         self.links = links;
         Ok(())
     }
@@ -297,7 +337,7 @@ impl Indexed {
         (i, j): (usize, usize),
         rows: Vec<StampedRow>,
     ) -> Result<(), NoAnswer> {
-        if j >= self.terms.lists() || j >= self.links.lists() {
+        if j >= self.terms.lists() || j >= self.links.lists() || j >= self.words.lists() {
             return Err(NoAnswer::NoQuestion);
         }
         if i >= j || j >= self.lists.len() {
@@ -306,6 +346,7 @@ impl Indexed {
         put_in(&mut self.index, i, j, list_places(alloc, &rows)?)?;
         self.terms
             .replace_two(i, j, post_terms(alloc, &rows)?.seal());
+        self.words.replace_two(i, j, post_words(alloc, &rows)?);
         self.links
             .replace_two(i, j, post_links(alloc, &rows)?.seal());
         self.lists[i] = rows;
@@ -341,6 +382,11 @@ impl Indexed {
         if i >= j || j >= self.terms.lists() || j >= self.lists.len() {
             return Err(NoAnswer::NoQuestion);
         }
+        if j >= self.words.lists() {
+            return Err(NoAnswer::NoQuestion);
+        }
+        let words = post_words(alloc, &self.lists[j])?;
+        self.words.replace_two(i, j, words);
         let terms = post_terms(alloc, &self.lists[j])?.seal();
         self.terms.replace_two(i, j, terms);
         let rows = self.lists.remove(j);

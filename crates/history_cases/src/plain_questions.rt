@@ -52,6 +52,9 @@ fn find<'a>(
         Question::Search(date, after, limit) => {
             plain_history::search_terms(alloc, shown, prefix, date, after, limit)?
         }
+        Question::Words(date, wanted_type, offset, limit) => {
+            plain_history::words_found(alloc, shown, date, wanted_type, offset, limit, prefix)?
+        }
         Question::AllRows(kind, after, limit) => {
             plain_history::rows_of_kind(alloc, shown, kind, after, limit)?
         }

@@ -1,8 +1,8 @@
-//! Two lists of rows that are merged in steps: their places, their terms and their links.
+//! Two lists of rows that are merged in steps: their places, terms, words and links.
 
 ghost use Rattle.term_prefix.specs.Merged.{IsMergeOfTerms};
 
-use crate::indexed::{places_of, post_links, post_terms};
+use crate::indexed::{Posted, places_of, post_links, post_terms, post_words};
 use as_of_index::{Numbers, PlaceList};
 use case_files::{Answer, NoAnswer};
 use case_values::{first_word, number};
@@ -66,6 +66,40 @@ fn merge_terms(
     Ok(merging.seal())
 }
 
+/// Merges this many postings of words in each step, until none is left.
+fn advance_words(
+    merging: &mut term_words::Merging,
+    a: &term_words::Sealed,
+    b: &term_words::Sealed,
+    numbers: &Numbers<'_>,
+    many: usize,
+) -> Result<(), NoAnswer>
+    ensures { IsMergeOfTerms numbers.now a.now b.now merging.old
+        → IsMergeOfTerms numbers.now a.now b.now merging.new }
+{
+    for _turn in 0..TURNS {
+        if merging.left(a, b) == 0 {
+            return Ok(());
+        }
+        merging.advance(a, b, numbers, many)?;
+    }
+    Err(NoAnswer::NoQuestion)
+}
+
+/// The merged words of two lists of rows, this many postings in each step.
+fn merge_words(
+    alloc: Global,
+    [first, second]: [&[StampedRow]; 2],
+    numbers: &Numbers<'_>,
+    many: usize,
+) -> Result<term_words::Sealed, NoAnswer> {
+    let a = post_words(alloc, first)?;
+    let b = post_words(alloc, second)?;
+    let mut merging = term_words::Merging::new(alloc);
+    advance_words(&mut merging, &a, &b, numbers, many)?;
+    Ok(merging.seal())
+}
+
 /// Merges this many subjects, and this many postings, in each step.
 fn advance_links(
     alloc: Global,
@@ -99,11 +133,17 @@ pub fn merge_posted(
     alloc: Global,
     both: [&[StampedRow]; 2],
     many: usize,
-) -> Result<(term_prefix::Sealed, links::Sealed), NoAnswer> {
+) -> Result<Posted, NoAnswer> {
     let (a, b) = (places_of(alloc, both[0])?, places_of(alloc, both[1])?);
     let numbers = numbers_of(&a, &b)?;
     let terms = merge_terms(alloc, both, &numbers, many)?;
-    Ok((terms, merge_links(alloc, both, &numbers, many)?))
+    let words = merge_words(alloc, both, &numbers, many)?;
+    let links = merge_links(alloc, both, &numbers, many)?;
+    Ok(Posted {
+        terms,
+        words,
+        links,
+    })
 }
 
 /// Appends the places that a step took, one on each line, and how many are left.

@@ -44,6 +44,7 @@ module _ {D : Type 0} (s : StoreValue D) (release : Release) where
   why may_be Writes refusals.NoMerge is refused = absurd refused.1
   why may_be Writes refusals.MergeUnfinished is refused = absurd refused.1
   why may_be Writes refusals.CountSpent is refused = absurd (false≢true is)
+  why may_be Writes refusals.NotKept is refused = absurd refused.1
   why may_be Writes (refusals.Line file line fault) is refused = absurd (false≢true is)
   why may_be Writes (refusals.Contradiction file line) is refused = absurd (false≢true is)
 
@@ -62,6 +63,7 @@ module _ {D : Type 0} (s : StoreValue D) (release : Release) where
   that may_be Writes refusals.MergeBusy early refused = absurd refused.1
   that may_be Writes refusals.NoMerge early refused = absurd refused.1
   that may_be Writes refusals.MergeUnfinished early refused = absurd refused.1
+  that may_be Writes refusals.NotKept early refused = absurd refused.1
   that may_be Writes refusals.CountSpent early refused = absurd (not_both s.history.imports s.catalog.epoch early.1 refused.1)
   that may_be Writes (refusals.Line file line fault) early refused = absurd (refused.1.0.not_later early.2)
   that may_be Writes (refusals.Contradiction file line) early refused = absurd (refused.1.0.not_later early.2)

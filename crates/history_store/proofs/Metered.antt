@@ -1,5 +1,5 @@
 -- What calls that write do of the disk's counts and of the cache.
-use Rattle.std.specs.Prelude.{Option, Some, Result, Ok, Err}
+use Rattle.std.specs.Prelude.{Option, Some, Ok, Err}
 use Rattle.std.proofs.Common.{◌≡◌, ℕ, List, refl, subst, arith}
 use Rattle.disk_model.specs.View.{DiskView, AtMost}
 use Rattle.lru.specs.LruCache.{LruCache}
@@ -8,7 +8,7 @@ use Rattle.directory.specs.declared.entry.Entry.{Entry}
 use Rattle.directory.specs.Places.{extent_of}
 use Rattle.history_store.specs.declared.merge_in_progress.MergeInProgress.{MergeInProgress}
 use Rattle.history_store.specs.declared.refusal.Refusal.{Refusal}
-use Rattle.history_store.specs.Answers.{Counts, CountsRefusal}
+use Rattle.history_store.specs.Answers.{CountsRefusal}
 use Rattle.history_store.specs.Catalog.{reserved_by}
 use Rattle.history_store.specs.MergeInProgress.{merge_of}
 use Rattle.history_store.specs.Merging.{step_cost}

@@ -73,14 +73,14 @@ module _ {D : Type 0} {may_be : RowValue → Type 0} (honest : Type 0) (old mid 
     segment_ready = subst (λ next. IsNextFor mid is.fresh next) e is.next_is
 
     pub for_ready : IsPreparedFor mid p
-    for_ready = prepared_for mid mid mid.history release is.fresh p refl is.history refl is.room.not_later is.brings segment_ready.1
+    for_ready = prepared_for mid mid mid.history release is.fresh p refl is.history refl is.room.not_later is.brings segment_ready.1 segment_ready.2
 
-    pub imported_with : (new : StoreValue D) → (new.history ≡ with_rows mid.history p.index) × (new.catalog ≡ catalog_of p.directory mid.catalog.merge) × (new.needs_reopen ≡ false) → honest → IsImportOf (Ok ready.receipt) old new release
+    pub imported_with : (new : StoreValue D) → (new.history ≡ with_rows mid.history p.index.rows) × (new.catalog ≡ catalog_of p.directory mid.catalog.merge) × (new.needs_reopen ≡ false) → honest → IsImportOf (Ok ready.receipt) old new release
     imported_with new step up =
         subst (λ receipt. IsImportOf (Ok receipt) old new release) (sym is.receipt_is)
         (extended old mid mid release is.fresh p new.history new.catalog (mid.history.imports + 1) (length is.fresh.rows.items) refl still (at_ready honest mid release ready is still.open_still up) segment_ready.1.index_is segment_ready.1.placed segment_ready.0 step.0 step.1 refl refl, still.open_before, step.2)
 
-    pub kept_with : (new : StoreValue D) → (new.history ≡ with_rows mid.history p.index) × (new.catalog ≡ catalog_of p.directory mid.catalog.merge) × (new.needs_reopen ≡ false) → IsImportOnAnyDisk may_be (Ok ready.receipt) old new release
+    pub kept_with : (new : StoreValue D) → (new.history ≡ with_rows mid.history p.index.rows) × (new.catalog ≡ catalog_of p.directory mid.catalog.merge) × (new.needs_reopen ≡ false) → IsImportOnAnyDisk may_be (Ok ready.receipt) old new release
     kept_with new step =
         subst (λ receipt. IsImportOnAnyDisk may_be (Ok receipt) old new release) (sym is.receipt_is)
         (extended_by_key old old mid mid release is.fresh p new.history new.catalog (mid.history.imports + 1) (length is.fresh.rows.items) refl (room_ready honest mid release ready is old still) refl is.history still (brings_ready honest mid release ready is old still) segment_ready.1.index_is segment_ready.1.placed segment_ready.0 step.0 step.1 refl refl, still.open_before, step.2)
@@ -89,7 +89,7 @@ module _ {D : Type 0} {may_be : RowValue → Type 0} (honest : Type 0) (old mid 
     pub calls_with : calls_for ready.receipt.new ≡ 8
     calls_with = ap (λ (r : Receipt). calls_for r.new) is.receipt_is ∙ calls_for_rows (length is.fresh.rows.items) segment_ready.0
 
-    pub moments_with : (before between after : Moments) → between ≡ before → honest → LeavesOnly between after (λ c. RepresentsAs mid.catalog.layout mid.history c ⊎ RepresentsAs (next_layout mid.catalog.layout) (with_rows mid.history p.index) c) → LeavesOnly before after (IsBeforeOrAfter old.catalog.layout old.history release)
+    pub moments_with : (before between after : Moments) → between ≡ before → honest → LeavesOnly between after (λ c. RepresentsAs mid.catalog.layout mid.history c ⊎ RepresentsAs (next_layout mid.catalog.layout) (with_rows mid.history p.index.rows) c) → LeavesOnly before after (IsBeforeOrAfter old.catalog.layout old.history release)
     moments_with before between after same up leaves =
         from_mid before between after old.history mid.history old.catalog mid.catalog release same still.history still.catalog
         (leaves_extended mid mid release is.fresh p between after refl (at_ready honest mid release ready is still.open_still up) segment_ready.1.index_is leaves)

@@ -69,6 +69,7 @@ lacking Writes s release fresh refusals.NoMerge still room brings lacks = absurd
 lacking Writes s release fresh refusals.MergeUnfinished still room brings lacks = absurd lacks
 lacking Writes s release fresh refusals.CountSpent still room brings lacks = absurd lacks
 lacking Writes s release fresh refusals.LaterVersion still room brings lacks = absurd lacks
+lacking Writes s release fresh refusals.NotKept still room brings lacks = absurd lacks
 lacking Writes s release fresh (refusals.Line file line fault) still room brings lacks = absurd lacks
 lacking Writes s release fresh (refusals.Contradiction file line) still room brings lacks = absurd lacks
 
@@ -99,13 +100,13 @@ taken_by_key u old s release fresh after next number new first left still brings
     }
 
 pub extended_by_key : {D : Type 0} {may_be : RowValue → Type 0} (u old v s : StoreValue D) (release : Release) (fresh : NewRows) (p : Prepared) (after : History) (next : Catalog) (number new : ℕ) → u ≡ old → IsAdmitted u.history u.catalog release → v ≡ s → IsHistory v.history → IsStill old s → BringsByKey (full old.history) may_be release fresh
-    → p.index ≡ stamped (v.history.imports + 1) fresh.rows.items → IsPlaced (stamped (v.history.imports + 1) fresh.rows.items) v.catalog (catalog_of p.directory v.catalog.merge) → 1 ≤ length fresh.rows.items
-    → after ≡ with_rows s.history p.index → next ≡ catalog_of p.directory s.catalog.merge → number ≡ v.history.imports + 1 → new ≡ length fresh.rows.items
+    → p.index.rows ≡ stamped (v.history.imports + 1) fresh.rows.items → IsPlaced (stamped (v.history.imports + 1) fresh.rows.items) v.catalog (catalog_of p.directory v.catalog.merge) → 1 ≤ length fresh.rows.items
+    → after ≡ with_rows s.history p.index.rows → next ≡ catalog_of p.directory s.catalog.merge → number ≡ v.history.imports + 1 → new ≡ length fresh.rows.items
     → IsTakenByKey may_be old.history after old.catalog next release (record { number = number; new = new; repeated = fresh.repeated })
 extended_by_key {D} {may_be} u old v s release fresh p after next number new first left same is still brings shown placed some history catalog number_is count =
     let own_history : IsHistory s.history = subst (λ (x : StoreValue D). IsHistory x.history) same is in
     let keys : AreNewByKey (full s.history) may_be brings.rows fresh = subst (λ (h : History). AreNewByKey (full h) may_be brings.rows fresh) (sym still.history) brings.new_by_key in
-    let all : p.index ≡ stamped (s.history.imports + 1) fresh.rows.items = shown ∙ ap (λ (x : StoreValue D). stamped (x.history.imports + 1) fresh.rows.items) same in
+    let all : p.index.rows ≡ stamped (s.history.imports + 1) fresh.rows.items = shown ∙ ap (λ (x : StoreValue D). stamped (x.history.imports + 1) fresh.rows.items) same in
     taken_by_key u old s release fresh after next number new first left still brings
     (history ∙ ap (λ (l : List StampedRow). with_rows s.history l) all ∙ with_by_key s.history brings.rows fresh own_history keys)
     (subst (λ (x : Catalog). IsCatalogAfter (stamped (s.history.imports + 1) fresh.rows.items) s.catalog x) (sym catalog) (extended_catalog v s fresh p same placed some))

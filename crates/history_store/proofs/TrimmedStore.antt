@@ -15,7 +15,6 @@ use Rattle.history_model.specs.declared.stamped.StampedRow.{StampedRow}
 use Rattle.directory.specs.declared.entry.Entry.{Entry}
 use Rattle.directory.specs.Listings.{DirectoryValue, IsListing}
 use Rattle.directory.specs.Places.{extent_of, extents_of, taken}
-use Rattle.segment.specs.Records.{segment_in}
 use Rattle.store_image.specs.OnDisk.{IsOnDisk}
 use Rattle.store_image.specs.Trimmed.{EndBelow}
 use Rattle.store_image.specs.Ahead.{BeginsWith}

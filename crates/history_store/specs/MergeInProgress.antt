@@ -10,6 +10,7 @@ use Rattle.directory.specs.Listings.{DirectoryValue, HasForm, IsEntry, form_in}
 use Rattle.directory.specs.Places.{AreBeside, extent_of, extents_of}
 use Rattle.checksum.specs.Crc32c.{crc32c}
 use Rattle.segment.specs.Records.{segment_in}
+use Rattle.segment_index.specs.declared.words.Words.{Words}
 use Rattle.segment_index.specs.Output.{OutputRows, taken_rows, left_count}
 use Rattle.store_image.specs.Kept.{IsSegmentOf}
 use Rattle.store_image.specs.Ahead.{BeginsWith}
@@ -54,6 +55,11 @@ IsWritten (Some m) now =
 abbrev pub IsSummed : Option MergeInProgress → Type 0
 IsSummed None = Unit {0}
 IsSummed (Some m) = m.crc ≡ crc32c (segment_in (form_in m.entry.sums) (taken_rows m.output))
+
+-- the output keeps words if the store does
+abbrev pub HasSameWords : Words → Option MergeInProgress → Type 0
+HasSameWords words None = Unit {0}
+HasSameWords words (Some m) = m.output.words ≡ words
 
 -- A merge in progress is one of two of these segments. As long as no call has failed, a read
 -- returns what was written of its output, and the running checksum is that of these bytes.

@@ -1,6 +1,7 @@
 -- The result of a query, and the store after it.
 use Rattle.std.specs.Prelude.{◌≡◌, ◌≢◌, ◌⊎◌, ◌↔◌, ℕ, Bool, true, false, List, []}
-use Rattle.std.specs.Prelude.{◌+◌, ◌≤◌, Result, IfOk, IfErr, OnOk, OnErr, Option, Some, None}
+use Rattle.std.specs.Prelude.{◌+◌, ◌≤◌, Result, Err, IfOk, IfErr, OnOk, OnErr, Option, Some, None}
+use Rattle.std.specs.Prelude.{if◌then◌else◌}
 use Rattle.std.specs.List.{list_any, sum_by}
 use Rattle.rf2_values.specs.Row.{RowValue}
 use Rattle.rf2_values.specs.Key.{key_of}
@@ -130,6 +131,14 @@ abbrev pub IsRowsQueryBy : {T D : Type 0} → (put_in_order : Bool) → Result T
     → StoreValue D → StoreValue D → Type 0
 IsRowsQueryBy put_in_order result rows_of wanted pin =
     IsRowsQueryOf put_in_order result rows_of (λ rows. wanted (rows_at pin rows))
+
+-- A query for words that the store leaves out: it is refused, as every call is if the store has to
+-- be opened again, and nothing changes.
+pub record IsNotKept {T D : Type 0} (result : Result T Refusal) (old new : StoreValue D)
+    : Type 0 where
+  pub refused :
+      result ≡ Err (if old.needs_reopen then refusals.ReopenNeeded else refusals.NotKept)
+  pub unchanged : new ≡ old
 
 -- A query that the index answers on every disk, among the rows that the pin shows, without reading
 -- a row. Nothing changes, and it is refused only if the store has to be opened again or memory runs

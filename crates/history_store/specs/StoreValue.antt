@@ -11,16 +11,18 @@ use Rattle.store_image.specs.Images.{Represents}
 use Rattle.store_image.specs.OnDisk.{IsOnDisk}
 use Rattle.lru.specs.LruCache.{LruCache, lru_cache}
 use Rattle.blocks.specs.Cache.{AgreesWith}
+use Rattle.segment_index.specs.declared.words.Words.{Words}
 use Rattle.history_store.specs.Catalog.{Catalog}
 
 -- the disk, the history, the catalog, whether the store has to be opened again because a call
--- failed, and the cached blocks of the disk
+-- failed, the cached blocks of the disk, and whether words are kept in memory
 pub record StoreValue (D : Type 0) : Type 0 where
   pub disk : D
   pub history : History
   pub catalog : Catalog
   pub needs_reopen : Bool
   pub cache : LruCache ℕ (List ℕ)
+  pub words : Words
 
 -- the empty cache, with a capacity of 1,024 blocks
 abbrev pub no_blocks : LruCache ℕ (List ℕ)

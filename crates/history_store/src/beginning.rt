@@ -64,10 +64,11 @@ pub(crate) fn begin(
     index: &StoreIndex,
 ) -> Result<MergeInProgress, Refusal>
     requires long { AreLong directory.now.entries }
-    requires kept { IsKept directory.now index.now }
+    requires kept { IsKept directory.now index.now.lists }
     ensures begun { IfOk result (IsNewMerge directory.now) }
-    ensures first { IfOk result (λ m. slice_get index.now m.i ≡ Some m.output.a) }
-    ensures second { IfOk result (λ m. slice_get index.now m.j ≡ Some m.output.b) }
+    ensures first { IfOk result (λ m. slice_get index.now.lists m.i ≡ Some m.output.a) }
+    ensures second { IfOk result (λ m. slice_get index.now.lists m.j ≡ Some m.output.b) }
+    ensures words { IfOk result (λ m. m.output.words ≡ index.now.words) }
     ensures refused { IfErr result (λ e. IsUnbegun e directory.now.entries) }
     ensures listing { IsListing directory.now }
 {

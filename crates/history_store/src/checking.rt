@@ -41,6 +41,7 @@ impl<D: Disk> Store<D> {
         // A crash before the call would have left what the store held then.
         ensures stood { (D.view self.old.disk).is_honest → self.old.needs_reopen ≡ false
             → IsAcknowledged D.view self.old }
+        ensures words { self.new.words ≡ self.old.words }
     {
         if self.needs_reopen {
             return Err(Refusal::ReopenNeeded);
@@ -62,7 +63,8 @@ impl<D: Disk> Store<D> {
             let next = Next::WithoutSegment(directory);
             return Ok(Ready { receipt, next });
         }
-        let prepared = prepare(self.alloc, &self.directory, &self.merge, fresh.rows)?;
+        let words = self.index.keeps_words();
+        let prepared = prepare(self.alloc, &self.directory, &self.merge, fresh.rows, words)?;
         let next = Next::WithSegment(prepared);
         Ok(Ready { receipt, next })
     }
@@ -75,6 +77,7 @@ impl<D: Disk> Store<D> {
         // promise: a_refusal_names_its_cause, a_check_foretells_the_import, members_need_layout_3
         // promise: a_failed_disk_is_told, no_damage_is_invented
         ensures answer { IsChecking result release D.view self.old self.new }
+        ensures words { self.new.words ≡ self.old.words }
     {
         let ready = self.make_ready(release)?;
         Ok(ready.receipt)

@@ -30,6 +30,7 @@ impl<D: Disk> Store<D> {
             (λ e. IsRefused e self.old self.new) }
         ensures disk { self.new.disk ≡ self.old.disk }
         ensures cache { self.new.cache ≡ self.old.cache }
+        ensures words { self.new.words ≡ self.old.words }
         ensures acknowledged { (D.view self.old.disk).is_honest → self.new.needs_reopen ≡ false
             → IsAcknowledged D.view self.new }
     {
@@ -55,6 +56,7 @@ impl<D: Disk> Store<D> {
         // promise: a_refusal_names_its_cause, all_contradictions_are_listed, a_failed_disk_is_told
         // promise: no_damage_is_invented
         ensures answer { IsListing result release limit D.view self.old self.new }
+        ensures words { self.new.words ≡ self.old.words }
     {
         if self.needs_reopen {
             return Err(Refusal::ReopenNeeded);

@@ -1,6 +1,6 @@
 //! All versions of components in the order of their keys.
 
-ghost use Rattle.std.specs.Prelude.{◌≤◌};
+ghost use Rattle.std.specs.Prelude.{◌≡◌, ◌≤◌};
 
 use crate::reading::DiskRows;
 use crate::refusal::Refusal;
@@ -28,6 +28,7 @@ impl<D: Disk> Store<D> {
         // promise: a_digest_is_that_of_the_rows
         ensures answer { IsRowsQueryBy false result (λ rows. rows.items) (rows_after after limit)
             pin D.view self.old self.new }
+        ensures words { self.new.words ≡ self.old.words }
         // On every disk the store's rows are in key order, each with the number of an import.
         // promise: an_answer_is_the_defined_one, a_digest_is_that_of_the_rows
         ensures history { IsHistory self.old.history }
@@ -63,6 +64,7 @@ impl<D: Disk> Store<D> {
         // promise: few_calls_reach_the_disk
         ensures answer { IsRowsQueryOf false result (λ rows. rows.items)
             (added number kind after limit) D.view self.old self.new }
+        ensures words { self.new.words ≡ self.old.words }
     {
         if self.needs_reopen {
             return Err(Refusal::ReopenNeeded);

@@ -32,5 +32,6 @@ pub use directory::Layout;
 pub use history_model::{ImportReceipt, Receipt};
 pub use question_model::{IdQuestion, RowQuestion};
 pub use refusal::Refusal;
+pub use segment_index::Words;
 pub use store::Store;
 pub use store_image::Damage;

@@ -8,7 +8,7 @@ ghost use Rattle.segment.specs.Records.{segment_of, IsSegmentIn};
 use history_model::StampedRow;
 use rf2_values::Row;
 use segment::{Form, put_record};
-use segment_index::{IndexBuilder, SegmentIndex};
+use segment_index::{IndexBuilder, SegmentIndex, Words};
 use shrinking_list::ShrinkingList;
 use std::alloc::{AllocError, Global};
 
@@ -28,17 +28,19 @@ pub(crate) fn place_all(
     import: u32,
     form: Form,
     len: u32,
+    words: Words,
 ) -> Result<Placed, AllocError>
     requires short { length (segment_of (stamped import rows.items)) < 2 ^ 32 }
     requires ascending { IsAscending row_cmp rows.items }
     requires from_one { 1 ≤ import }
-    ensures index { IfOk result (λ placed. placed.index ≡ stamped import rows.items) }
+    ensures index { IfOk result
+        (λ placed. placed.index ≡ record { rows = stamped import rows.items; words = words }) }
     ensures segment { IfOk result
         (λ placed. IsSegmentIn form (stamped import rows.items) placed.bytes.items) }
 {
     let mut bytes = Vec::with_capacity(alloc, len as usize)?;
     let mut fields = Vec::new(alloc);
-    let mut index = IndexBuilder::with_capacity(alloc, rows.len())?;
+    let mut index = IndexBuilder::with_capacity(alloc, rows.len(), words)?;
     for row in ShrinkingList::new(rows) {
         let stamped = StampedRow { row, import };
         put_record(&mut bytes, &mut fields, form, &stamped)?;
@@ -46,6 +48,6 @@ pub(crate) fn place_all(
     }
     Ok(Placed {
         bytes,
-        index: index.seal(),
+        index: index.seal()?,
     })
 }

@@ -19,8 +19,9 @@ impl<D: Disk> Store<D> {
     ghost use Rattle.question_model.specs.Questions.{row_question_of, id_question_of};
     ghost use Rattle.question_model.specs.Wanted.{rows_for, AreIdsFor};
     ghost use Rattle.index_answers.specs.Keys.{is_put_in_order};
+    ghost use Rattle.index_answers.specs.Words.{lacks_words};
     ghost use Rattle.history_store.specs.Answers.{IsReadingOf};
-    ghost use Rattle.history_store.specs.Queries.{IsRowsQueryBy, IsIndexQuery};
+    ghost use Rattle.history_store.specs.Queries.{IsRowsQueryBy, IsIndexQuery, IsNotKept};
     ghost use Rattle.history_store.specs.Refusals.{of_read};
     ghost use Rattle.history_store.specs.StoreValue.{IsAcknowledged};
     ghost use Rattle.history_store.specs.declared.refusal.Refusal.TheVariants as refusals;
@@ -34,6 +35,7 @@ impl<D: Disk> Store<D> {
         ensures left { IsReadingOf result self.old self.new }
         ensures disk { self.new.disk ≡ self.old.disk }
         ensures cache { self.new.cache ≡ self.old.cache }
+        ensures words { self.new.words ≡ self.old.words }
         ensures acknowledged { (D.view self.old.disk).is_honest → self.new.needs_reopen ≡ false
             → IsAcknowledged D.view self.new }
     {
@@ -48,16 +50,22 @@ impl<D: Disk> Store<D> {
         }
     }
 
-    /// The rows that a question finds, among those that the first `pin` imports brought.
+    /// The rows that a question finds, among those that the first `pin` imports brought. A question
+    /// for words is refused by a store that leaves them out, without a call on the disk.
     pub fn select(&mut self, question: &RowQuestion<'_>, pin: u32) -> Result<Vec<Row>, Refusal>
         requires { pin ≤ self.old.history.imports }
         // promise: an_answer_is_the_defined_one, keys_are_right_on_every_disk
         // promise: no_damage_is_invented, a_question_changes_nothing
         // promise: a_question_reads_only_its_rows, what_is_cached_is_not_read_again
         // promise: few_calls_reach_the_disk
-        ensures answer { IsRowsQueryBy (is_put_in_order (row_question_of question.now)) result
+        ensures answer { lacks_words (row_question_of question.now) self.old.words ≡ false
+            → IsRowsQueryBy (is_put_in_order (row_question_of question.now)) result
             (λ rows. rows.items) (rows_for (row_question_of question.now)) pin D.view self.old
             self.new }
+        // promise: an_answer_is_the_defined_one, a_question_changes_nothing
+        ensures not_kept { lacks_words (row_question_of question.now) self.old.words ≡ true
+            → IsNotKept result self.old self.new }
+        ensures words { self.new.words ≡ self.old.words }
     {
         if self.needs_reopen {
             return Err(Refusal::ReopenNeeded);
@@ -68,8 +76,10 @@ impl<D: Disk> Store<D> {
             &self.directory,
             &self.index,
         );
-        let read = select(self.alloc, &self.index, &mut reader, question, pin);
-        self.answered(read)
+        match select(self.alloc, &self.index, &mut reader, question, pin) {
+            Some(read) => self.answered(read),
+            None => Err(Refusal::NotKept),
+        }
     }
 
     /// The concepts that a question finds in the rows that the first `pin` imports brought. Reads

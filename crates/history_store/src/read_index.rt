@@ -2,7 +2,7 @@
 
 use history_model::StampedRow;
 use segment::RowPlace;
-use segment_index::{IndexBuilder, SegmentIndex};
+use segment_index::{IndexBuilder, SegmentIndex, Words};
 use std::alloc::{AllocError, Global};
 use store_image::SegmentBuilder;
 
@@ -15,12 +15,18 @@ pub(crate) struct ReadIndex {
 impl SegmentBuilder for ReadIndex {
     type Segment = SegmentIndex;
 
-    ghost rows = { λ s. s.index };
+    type Options = Words;
 
-    ghost sealed = { λ s. s };
+    ghost options = { λ s. s.index.words };
 
-    fn with_capacity(alloc: Global, count: usize) -> Result<ReadIndex, AllocError> {
-        let index = IndexBuilder::with_capacity(alloc, count)?;
+    ghost rows = { λ s. s.index.rows };
+
+    ghost sealed = { λ s. s.rows };
+
+    ghost built_with = { λ s. s.words };
+
+    fn with_capacity(alloc: Global, count: usize, told: Words) -> Result<ReadIndex, AllocError> {
+        let index = IndexBuilder::with_capacity(alloc, count, told)?;
         Ok(ReadIndex { index })
     }
 
@@ -28,7 +34,7 @@ impl SegmentBuilder for ReadIndex {
         self.index.push(row)
     }
 
-    fn seal(self) -> SegmentIndex {
+    fn seal(self) -> Result<SegmentIndex, AllocError> {
         self.index.seal()
     }
 

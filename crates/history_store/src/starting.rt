@@ -2,11 +2,13 @@
 
 ghost use Rattle.std.specs.Prelude.{◌≡◌, ◌≢◌, ◌↔◌, ◌≤◌, [], length, IfOk};
 ghost use Rattle.std.specs.Prelude.{IfErr, OnOk};
+ghost use Rattle.std.specs.List.{AllByRecursion};
 ghost use Rattle.disk_model.specs.Disk.{LeavesOnly};
 ghost use Rattle.blocks.specs.Outside.{StemsWithin};
 ghost use Rattle.blocks.specs.Slots.{slots_range};
 ghost use Rattle.history_model.specs.Lists.{AreLists};
 ghost use Rattle.as_of_index.specs.Places.{max_lists};
+ghost use Rattle.segment_index.specs.Indexed.{rows_of_all};
 ghost use Rattle.store_image.specs.OnDisk.{IsOnDisk};
 ghost use Rattle.directory.specs.Listings.{empty_listing};
 ghost use Rattle.store_image.specs.Answers.{IsNewStore};
@@ -21,7 +23,7 @@ use crate::refusal::Refusal;
 use blocks::{BlockCache, Slot};
 use directory::{Directory, Layout};
 use disk_model::Disk;
-use segment_index::{SegmentIndex, StoreIndex};
+use segment_index::{SegmentIndex, StoreIndex, Words};
 use std::alloc::{AllocError, Global};
 use store_image::{Made, check_empty, make};
 
@@ -41,13 +43,16 @@ pub(crate) struct Started {
 pub(crate) fn index_segments(
     alloc: Global,
     segments: Vec<SegmentIndex>,
+    words: Words,
 ) -> Result<(StoreIndex, BlockCache), AllocError>
     requires few { length segments.items ≤ max_lists }
-    requires lists { AreLists segments.items }
-    ensures index { IfOk result (λ kept. kept.0 ≡ segments.items) }
+    requires lists { AreLists (rows_of_all segments.items) }
+    requires words { AllByRecursion (λ s. s.words ≡ words) segments.items }
+    ensures index { IfOk result
+        (λ kept. kept.0 ≡ record { lists = rows_of_all segments.items; words = words }) }
     ensures cache { IfOk result (λ kept. kept.1 ≡ no_blocks) }
 {
-    let index = StoreIndex::of_segments(alloc, segments)?;
+    let index = StoreIndex::of_segments(alloc, segments, words)?;
     let cache = BlockCache::new(alloc, KEPT_BLOCKS)?;
     Ok((index, cache))
 }
@@ -57,9 +62,10 @@ pub(crate) fn start<D: Disk>(
     alloc: Global,
     disk: &mut D,
     layout: Layout,
+    words: Words,
 ) -> Result<Started, Refusal>
-    ensures empty { IfOk result (λ s. (s.directory ≡ empty_listing layout) × (s.index ≡ [])
-        × (s.cache ≡ no_blocks)) }
+    ensures empty { IfOk result (λ s. (s.directory ≡ empty_listing layout)
+        × (s.index ≡ record { lists = []; words = words }) × (s.cache ≡ no_blocks)) }
     ensures made { (D.view disk.old).is_honest
         → OnOk result (length (D.view disk.old).moments.state.now ≡ 0) }
     ensures on_disk { (D.view disk.old).is_honest
@@ -79,7 +85,7 @@ pub(crate) fn start<D: Disk>(
     ensures meters { IsMeteredStart result (D.view disk.old) (D.view disk.new) }
 {
     check_empty(disk)?;
-    let index = StoreIndex::new(alloc)?;
+    let index = StoreIndex::new(alloc, words)?;
     let cache = BlockCache::new(alloc, KEPT_BLOCKS)?;
     let Made { slot, directory } = make(alloc, disk, layout)?;
     Ok(Started {

@@ -22,7 +22,7 @@ use disk_model::Disk;
 use history_model::Receipt;
 use import_check::{ImportFault, NewRows, Release, Scope};
 use rf2_rows::EffectiveTime;
-use segment_index::StoreIndex;
+use segment_index::{StoreIndex, Words};
 use std::alloc::Global;
 use std::marker::Model;
 use store_image::{Loaded, add_segment, load, publish_directory};
@@ -46,22 +46,24 @@ impl<D: Disk> Model for Store<D> {
     ghost use Rattle.history_model.specs.Lists.{listed};
     ghost use Rattle.history_store.specs.Catalog.{catalog_of};
     ghost use Rattle.history_store.specs.StoreValue.{StoreValue, IsHeld};
-    ghost use Rattle.history_store.specs.MergeInProgress.{merge_of, HasMerge};
+    ghost use Rattle.history_store.specs.MergeInProgress.{merge_of, HasMerge, HasSameWords};
 
     ghost Value = { StoreValue D };
 
     ghost view = { λ s. record {
       disk = s.disk;
-      history = record { imports = s.directory.imports; rows = listed s.index };
+      history = record { imports = s.directory.imports; rows = listed s.index.lists };
       catalog = catalog_of s.directory (merge_of s.merge);
       needs_reopen = s.needs_reopen;
       cache = s.cache;
+      words = s.index.words;
     } };
 
     ghost invariant = { λ s. IsHeld (D.view s.disk).is_honest (D.view s.disk).moments.state
-        s.cache s.slot s.directory s.index s.needs_reopen
+        s.cache s.slot s.directory s.index.lists s.needs_reopen
         × HasMerge (D.view s.disk).is_honest (D.view s.disk).moments.state.now
-        s.directory s.index s.merge s.needs_reopen };
+        s.directory s.index.lists s.merge s.needs_reopen
+        × HasSameWords s.index.words s.merge };
 }
 
 impl<D: Disk> Store<D> {
@@ -94,18 +96,24 @@ impl<D: Disk> Store<D> {
     ghost use Rattle.history_store.specs.Queries.{ForgetsWritten};
     ghost use Rattle.history_store.specs.Stored.{IsStored};
 
-    /// Makes a store with this layout on an empty disk. First asks for the disk's length, then
-    /// allocates all memory, then writes.
-    pub fn create(alloc: Global, disk: D, layout: Layout) -> Result<Store<D>, (Refusal, D)>
+    /// Makes a store with this layout on an empty disk, which keeps words or leaves them out. First
+    /// asks for the disk's length, then allocates all memory, then writes.
+    pub fn create(
+        alloc: Global,
+        disk: D,
+        layout: Layout,
+        words: Words,
+    ) -> Result<Store<D>, (Refusal, D)>
         // promise: a_refusal_names_its_cause, what_is_cached_is_not_read_again
         // promise: a_crash_leaves_the_old_or_the_new, few_calls_reach_the_disk
         // promise: a_failed_disk_is_told, a_new_store_is_empty
         ensures made { IsMaking layout result D.view disk }
         // promise: few_calls_reach_the_disk
+        ensures words { IfOk result (λ s. s.words ≡ words) }
         ensures meters { IsMeteredMaking result D.view disk }
     {
         let mut disk = disk;
-        match start(alloc, &mut disk, layout) {
+        match start(alloc, &mut disk, layout, words) {
             Ok(
                 Started {
                     slot,
@@ -127,14 +135,15 @@ impl<D: Disk> Store<D> {
         }
     }
 
-    /// Opens the store that a disk represents. Syncs the disk once and then reads it; every refusal
-    /// returns the disk.
-    pub fn open(alloc: Global, disk: D) -> Result<Store<D>, (Refusal, D)>
+    /// Opens the store that a disk represents, and keeps its words or leaves them out: only memory
+    /// has them. Syncs the disk once and then reads it; every refusal returns the disk.
+    pub fn open(alloc: Global, disk: D, words: Words) -> Result<Store<D>, (Refusal, D)>
         // promise: a_refusal_names_its_cause, what_is_cached_is_not_read_again
         // promise: a_confirmed_import_survives, a_crash_leaves_the_old_or_the_new
         // promise: a_store_is_opened_as_it_was_left, few_calls_reach_the_disk
         // promise: a_failed_disk_is_told, older_layouts_stay_readable
         ensures opened { IsOpening result D.view disk }
+        ensures words { IfOk result (λ s. s.words ≡ words) }
         // promise: a_confirmed_import_survives, few_calls_reach_the_disk, reading_is_bounded
         ensures meters { IsMeteredOpening result D.view disk }
     {
@@ -143,11 +152,11 @@ impl<D: Disk> Store<D> {
             slot,
             directory,
             segments,
-        } = match load::<D, ReadIndex>(alloc, &mut disk) {
+        } = match load::<D, ReadIndex>(alloc, &mut disk, words) {
             Ok(loaded) => loaded,
             Err(fault) => return Err((Refusal::from(fault), disk)),
         };
-        match index_segments(alloc, segments) {
+        match index_segments(alloc, segments, words) {
             Ok((index, cache)) => Ok(Store {
                 alloc,
                 disk,
@@ -171,6 +180,7 @@ impl<D: Disk> Store<D> {
         ensures brings { IfOk result
             (BringsByKey (full self.old.history) (IsStored D.view self.old) release) }
         ensures is_read { IfOk result (λ fresh. IsRead release) }
+        ensures words { self.new.words ≡ self.old.words }
         ensures refused { IfErr result (λ e. IsNotFresh (D.view self.old.disk).is_honest
             (IsStored D.view self.old) e (full self.old.history) release) }
         ensures still { IfOk result (λ fresh. IsStill self.old self.new) }
@@ -202,6 +212,7 @@ impl<D: Disk> Store<D> {
         ensures step { IsStep result self.old self.new
             (with_imports self.old.history next.imports)
             (catalog_of next self.old.catalog.merge) }
+        ensures words { self.new.words ≡ self.old.words }
         ensures crash { IsCrashSafe D.view
             (λ c. RepresentsAs self.old.catalog.layout self.old.history c
             ⊎ RepresentsAs next.layout (with_imports self.old.history next.imports) c)
@@ -238,12 +249,13 @@ impl<D: Disk> Store<D> {
         requires still { self.old.needs_reopen ≡ false }
         requires prepared { IsPreparedFor self.old prepared }
         ensures step { IsStep result self.old self.new
-            (with_rows self.old.history prepared.index)
+            (with_rows self.old.history prepared.index.rows)
             (catalog_of prepared.directory self.old.catalog.merge) }
+        ensures words { self.new.words ≡ self.old.words }
         ensures crash { IsCrashSafe D.view
             (λ c. RepresentsAs self.old.catalog.layout self.old.history c
             ⊎ RepresentsAs (next_layout self.old.catalog.layout)
-            (with_rows self.old.history prepared.index) c) self.old self.new }
+            (with_rows self.old.history prepared.index.rows) c) self.old self.new }
         ensures refused { (D.view self.old.disk).is_honest
             → KeepsMoments D.view result self.old self.new }
         ensures elsewhere { (D.view self.old.disk).is_honest → OnOk result
@@ -287,6 +299,7 @@ impl<D: Disk> Store<D> {
         // promise: older_layouts_stay_readable, free_blocks_are_found_again
         ensures answer { (D.view self.old.disk).is_honest
             → IsImportOf result self.old self.new release }
+        ensures words { self.new.words ≡ self.old.words }
         // What is promised on every disk.
         // promise: a_refusal_names_its_cause, a_release_is_taken_whole_or_not_at_all
         // promise: members_need_layout_3, older_layouts_stay_readable, no_damage_is_invented
@@ -386,6 +399,13 @@ impl<D: Disk> Store<D> {
         ensures { IsLatestDay result self.now.history.rows }
     {
         latest_time(self.index.places())
+    }
+
+    /// Whether the words of terms are kept, by which descriptions are found.
+    pub fn keeps_words(&self) -> Words
+        ensures { result ≡ self.now.words }
+    {
+        self.index.keeps_words()
     }
 
     /// Whether the disk failed in a call, so that the store has to be opened again.

@@ -4,4 +4,6 @@ pub use Rattle.question_model.specs.Questions
 pub use Rattle.question_model.specs.Wanted
 pub use Rattle.as_of_index.specs.Reader
 pub use Rattle.as_of_index.specs.Places
+pub use Rattle.segment_index.specs.Indexed
 pub mod Keys
+pub mod Words

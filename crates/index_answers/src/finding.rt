@@ -21,7 +21,7 @@ pub fn ids(
     pin: u32,
 ) -> Result<Vec<u64>, AllocError>
     // promise: an_answer_is_the_defined_one
-    ensures { IfOk result (λ ids. AreIdsFor (id_question_of question.now) (rows_at pin (listed index.now))
+    ensures { IfOk result (λ ids. AreIdsFor (id_question_of question.now) (rows_at pin (listed index.now.lists))
         ids.items) }
 {
     let places = index.places();

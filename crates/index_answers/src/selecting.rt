@@ -1,6 +1,6 @@
 //! Selects the rows that a question asks for.
 
-ghost use Rattle.std.specs.Prelude.{◌≡◌, IfOk, option_to_list};
+ghost use Rattle.std.specs.Prelude.{◌≡◌, true, false, IfOk, MatchOption, option_to_list};
 ghost use Rattle.history_model.specs.History.{rows_at};
 ghost use Rattle.history_model.specs.Lists.{listed};
 ghost use Rattle.history_model.specs.Queries.{get};
@@ -10,14 +10,16 @@ ghost use Rattle.as_of_index.specs.Reader.{IsRowsRead, IsRowsReadBy};
 ghost use Rattle.question_model.specs.Questions.{row_question_of};
 ghost use Rattle.question_model.specs.Wanted.{rows_for};
 ghost use Rattle.index_answers.specs.Keys.{is_put_in_order};
+ghost use Rattle.index_answers.specs.Words.{lacks_words};
 
 use as_of_index::{AsOf, Index, ReadFault, RowReader};
 use links::{about, called, members, replacements, replaces, timeline, values};
 use question_model::RowQuestion;
-use rf2_values::{Kind, Row};
+use rf2_values::{Kind, Row, Sctid};
 use segment_index::StoreIndex;
 use std::alloc::{AllocError, Global};
 use term_prefix::{Search, find};
+use term_words::WordSearch;
 
 /// The row, if there is one, as a list.
 fn as_list(alloc: Global, row: Option<Row>) -> Result<Vec<Row>, AllocError>
@@ -48,42 +50,56 @@ fn get<R: RowReader>(
     Ok(as_list(alloc, found)?)
 }
 
-/// The rows that a question finds in those that the first `pin` imports brought.
+/// The identifier as a number, if there is one.
+fn number_of(id: Option<Sctid>) -> Option<u64>
+    ensures { result ≡ id }
+{
+    match id {
+        None => None,
+        Some(id) => Some(id.value()),
+    }
+}
+
+/// The rows that a question finds in those that the first `pin` imports brought. None if the
+/// question is for words, and the index has none.
 pub fn select<R: RowReader>(
     alloc: Global,
     index: &StoreIndex,
     reader: &mut R,
     question: &RowQuestion<'_>,
     pin: u32,
-) -> Result<Vec<Row>, ReadFault>
+) -> Option<Result<Vec<Row>, ReadFault>>
     // promise: an_answer_is_the_defined_one, keys_are_right_on_every_disk, no_damage_is_invented
     // promise: a_question_reads_only_its_rows
-    ensures answer { IsRowsReadBy (is_put_in_order (row_question_of question.now)) result
-        (λ rows. rows.items)
-        (λ lists. rows_for (row_question_of question.now) (rows_at pin (listed lists))) (λ lists. lists ≡ index.now)
-        R.cost (R.view reader.old) (R.view reader.new) }
+    ensures answer { MatchOption result
+        ((lacks_words (row_question_of question.now) index.now.words ≡ true)
+        × (reader.new ≡ reader.old))
+        (λ read. (lacks_words (row_question_of question.now) index.now.words ≡ false)
+        × IsRowsReadBy (is_put_in_order (row_question_of question.now)) read (λ rows. rows.items)
+        (λ lists. rows_for (row_question_of question.now) (rows_at pin (listed lists)))
+        (λ lists. lists ≡ index.now.lists) R.cost (R.view reader.old) (R.view reader.new)) }
     ensures stays { R.stays reader.old reader.new }
 {
     let places = index.places();
     let links = index.links();
     match *question {
         RowQuestion::Get { kind, id, date } => {
-            get(alloc, places, reader, kind, id, AsOf { date, pin })
+            Some(get(alloc, places, reader, kind, id, AsOf { date, pin }))
         }
-        RowQuestion::History { kind, id } => places.versions(reader, kind, id, pin),
+        RowQuestion::History { kind, id } => Some(places.versions(reader, kind, id, pin)),
         RowQuestion::Page {
             kind,
             date,
             after,
             limit,
-        } => places.page(reader, kind, AsOf { date, pin }, after, limit),
+        } => Some(places.page(reader, kind, AsOf { date, pin }, after, limit)),
         RowQuestion::Delta {
             kind,
             from,
             date,
             after,
             limit,
-        } => places.delta(reader, kind, from, AsOf { date, pin }, after, limit),
+        } => Some(places.delta(reader, kind, from, AsOf { date, pin }, after, limit)),
         RowQuestion::Terms {
             prefix,
             date,
@@ -94,7 +110,7 @@ pub fn select<R: RowReader>(
                 after: None,
                 limit,
             };
-            find(alloc, index.terms(), places, reader, prefix, &search)
+            Some(find(alloc, index.terms(), places, reader, prefix, &search))
         }
         RowQuestion::Search {
             prefix,
@@ -107,19 +123,35 @@ pub fn select<R: RowReader>(
                 after,
                 limit,
             };
-            find(alloc, index.terms(), places, reader, prefix, &search)
+            Some(find(alloc, index.terms(), places, reader, prefix, &search))
+        }
+        RowQuestion::Words {
+            date,
+            wanted_type,
+            offset,
+            limit,
+            text,
+        } => {
+            let words = index.words()?;
+            let search = WordSearch {
+                as_of: AsOf { date, pin },
+                wanted_type: number_of(wanted_type),
+                offset,
+                limit,
+            };
+            Some(term_words::find(alloc, words, places, reader, text, &search))
         }
         RowQuestion::About { kind, id, date } => {
-            about(alloc, links, places, reader, kind, id, AsOf { date, pin })
+            Some(about(alloc, links, places, reader, kind, id, AsOf { date, pin }))
         }
         RowQuestion::Timeline { kind, id } => {
-            timeline(alloc, links, places, reader, kind, id, pin)
+            Some(timeline(alloc, links, places, reader, kind, id, pin))
         }
         RowQuestion::Replaced { id, date } => {
-            replacements(alloc, links, places, reader, id, AsOf { date, pin })
+            Some(replacements(alloc, links, places, reader, id, AsOf { date, pin }))
         }
         RowQuestion::Replaces { id, date } => {
-            replaces(alloc, links, places, reader, id, AsOf { date, pin })
+            Some(replaces(alloc, links, places, reader, id, AsOf { date, pin }))
         }
         RowQuestion::Members {
             refset,
@@ -128,7 +160,7 @@ pub fn select<R: RowReader>(
             limit,
         } => {
             let as_of = AsOf { date, pin };
-            members(alloc, links, places, reader, refset, as_of, after, limit)
+            Some(members(alloc, links, places, reader, refset, as_of, after, limit))
         }
         RowQuestion::Values {
             refset,
@@ -137,7 +169,7 @@ pub fn select<R: RowReader>(
             limit,
         } => {
             let as_of = AsOf { date, pin };
-            values(alloc, links, places, reader, refset, as_of, after, limit)
+            Some(values(alloc, links, places, reader, refset, as_of, after, limit))
         }
         RowQuestion::Called {
             concept,
@@ -145,10 +177,10 @@ pub fn select<R: RowReader>(
             refset,
         } => {
             let as_of = AsOf { date, pin };
-            called(alloc, links, places, reader, concept, as_of, refset)
+            Some(called(alloc, links, places, reader, concept, as_of, refset))
         }
         RowQuestion::AllRows { kind, after, limit } => {
-            places.rows_of_kind(reader, kind, after, limit, pin)
+            Some(places.rows_of_kind(reader, kind, after, limit, pin))
         }
     }
 }

@@ -32,7 +32,7 @@ use store_image::{
 
 /// Loads a store.
 fn load_disk(alloc: Global, disk: &mut MemDisk) -> Result<Loaded<SegmentPlaces>, LoadFault> {
-    load::<MemDisk, SegmentPlaces>(alloc, disk)
+    load::<MemDisk, SegmentPlaces>(alloc, disk, ())
 }
 
 /// Why a store can't be loaded, unless there isn't enough memory.

@@ -10,7 +10,7 @@ use Rattle.rf2_values.specs.Time.{IsTime}
 use Rattle.rf2_values.specs.Row.{IsIdOf, SpellsId}
 use Rattle.rf2_values.proofs.Ids.{same_ids}
 use Rattle.rf2_values.proofs.Decimals.{time_below}
-use Rattle.line_commands.specs.Spelling.{IsSubjectOf, Ids, OfKind, OfComponents, OfSubjects, Argument, ForKind, Id, IdOrNone, KeyId, KeyDate, Date, Limit, Imported, Number, Text, Spells, SpellsIdOf, SpellsAll}
+use Rattle.line_commands.specs.Spelling.{IsSubjectOf, Ids, OfKind, OfComponents, OfSubjects, Argument, ForKind, Id, IdOrNone, KeyId, KeyDate, Date, Limit, Imported, Number, Text, WordsOf, Spells, SpellsIdOf, SpellsAll}
 use Rattle.line_commands.specs.Private.{IsWord, AreWords, behind}
 use Rattle.line_commands.proofs.FirstWords.{decimal_word, letter_word, none_word, id_word, one_letter, not_dash, no_dash_number}
 use Rattle.line_commands.proofs.Cuts.{same_split}
@@ -33,6 +33,7 @@ id_of_word (OfSubjects kind) id text s = subst IsWord (sym s.1) (decimal_word id
 -- whether an argument is one word
 abbrev pub is_one : Argument → Bool
 is_one (Text text) = false
+is_one (WordsOf text) = false
 is_one argument = true
 
 argument_word : (argument : Argument) (text : List ℕ) → is_one argument ≡ true → Spells argument text → IsWord text
@@ -49,6 +50,7 @@ argument_word (Limit limit) text e s = let high = s.1 in subst IsWord (sym s.2) 
 argument_word (Imported number) text e s = let high = s.1 in subst IsWord (sym s.2) (decimal_word number (omega arith))
 argument_word (Number number) text e s = let high = s.0 in subst IsWord (sym s.1) (decimal_word number (omega arith))
 argument_word (Text value) text e s = absurd (false≢true e)
+argument_word (WordsOf value) text e s = absurd (false≢true e)
 
 -- whether all but the last are one word
 abbrev pub is_line : List Argument → Bool
@@ -111,6 +113,7 @@ Alike (Limit m) (Limit n) = Unit {0}
 Alike (Imported m) (Imported n) = Unit {0}
 Alike (Number m) (Number n) = Unit {0}
 Alike (Text m) (Text n) = Unit {0}
+Alike (WordsOf m) (WordsOf n) = Unit {0}
 Alike _ _ = ⊥
 
 -- and what is the same in both, if one text spells them
@@ -127,6 +130,7 @@ Agree (Limit m) (Limit n) = m ≡ n
 Agree (Imported m) (Imported n) = m ≡ n
 Agree (Number m) (Number n) = m ≡ n
 Agree (Text m) (Text n) = m ≡ n
+Agree (WordsOf m) (WordsOf n) = m ≡ n
 Agree _ _ = ⊥
 
 agree : (a b : Argument) (t : List ℕ) → Alike a b → Spells a t → Spells b t → Agree a b
@@ -149,6 +153,7 @@ agree (Limit m) (Limit n) t e s r = let low = s.1 in let high = r.1 in decimal_i
 agree (Imported m) (Imported n) t e s r = let low = s.1 in let high = r.1 in decimal_injective m n (omega arith) (omega arith) (sym s.2 ∙ r.2)
 agree (Number m) (Number n) t e s r = let low = s.0 in let high = r.0 in decimal_injective m n (omega arith) (omega arith) (sym s.1 ∙ r.1)
 agree (Text m) (Text n) t e s r = sym s.2 ∙ r.2
+agree (WordsOf m) (WordsOf n) t e s r = sym s.2 ∙ r.2
 agree a b t e s r = absurd e
 
 pub same_key : (k l : Kind) (a b : Option Key) → Agree (KeyId k a) (KeyId l b) → Agree (KeyDate a) (KeyDate b) → a ≡ b

@@ -6,7 +6,7 @@ use Rattle.question_model.specs.declared.question.Question.{Question as RustQues
 use Rattle.question_model.specs.Questions.{Question, Get, History, Children, Ancestors, Descendants}
 use Rattle.question_model.specs.Questions.{Terms, Search, Replaced, Replaces, About, Timeline, Page}
 use Rattle.question_model.specs.Questions.{Delta, Members, Values, Called, Dates, Digest, Receipt}
-use Rattle.question_model.specs.Questions.{ForRows, ForIds, AllRows, Sources, Added}
+use Rattle.question_model.specs.Questions.{ForRows, ForIds, AllRows, Sources, Added, Words as AskWords}
 use Rattle.line_commands.specs.declared.words.Words.{Words}
 use Rattle.line_commands.specs.declared.words.QuestionWord.{QuestionWord}
 use Rattle.line_commands.specs.declared.words.QuestionWord.TheVariants as asking
@@ -26,6 +26,7 @@ each (ForIds (Ancestors id date)) asking.Ancestors P e h = h id date
 each (ForIds (Descendants id date)) asking.Descendants P e h = h id date
 each (ForRows (Terms prefix date limit)) asking.Terms P e h = h prefix date limit
 each (ForRows (Search prefix date after limit)) asking.Search P e h = h prefix date after limit
+each (ForRows (AskWords date wanted_type offset limit text)) asking.Words P e h = h date wanted_type offset limit text
 each (ForRows (Replaced id date)) asking.Replaced P e h = h id date
 each (ForRows (Replaces id date)) asking.Replaces P e h = h id date
 each (ForRows (About kind id date)) asking.About P e h = h kind id date
@@ -94,6 +95,7 @@ module _ (xs ys : List (List ℕ)) (same : behind xs ≡ behind ys) where
   one_of (ForIds (Descendants id date)) s = (asking.Descendants, refl, λ jd day t. let e = agree (ForIds (Descendants id date)) (ForIds (Descendants jd day)) refl (search rules) s t in λ i. ForIds (Descendants (e.0 i) (e.1.0 i)))
   one_of (ForRows (Terms prefix date limit)) s = (asking.Terms, refl, λ start day most t. let e = agree (ForRows (Terms prefix date limit)) (ForRows (Terms start day most)) refl (search rules) s t in λ i. ForRows (Terms (e.1.1.0 i) (e.0 i) (e.1.0 i)))
   one_of (ForRows (Search prefix date after limit)) s = (asking.Search, refl, λ start day since most t. let e = agree (ForRows (Search prefix date after limit)) (ForRows (Search start day since most)) refl (search rules) s t in λ i. ForRows (Search (e.1.1.1.0 i) (e.0 i) (e.1.0 i) (e.1.1.0 i)))
+  one_of (ForRows (AskWords date wanted_type offset limit text)) s = (asking.Words, refl, λ day sort from most start t. let e = agree (ForRows (AskWords date wanted_type offset limit text)) (ForRows (AskWords day sort from most start)) refl (search rules) s t in λ i. ForRows (AskWords (e.0 i) (e.1.0 i) (e.1.1.0 i) (e.1.1.1.0 i) (e.1.1.1.1.0 i)))
   one_of (ForRows (Replaced id date)) s = (asking.Replaced, refl, λ jd day t. let e = agree (ForRows (Replaced id date)) (ForRows (Replaced jd day)) refl (search rules) s t in λ i. ForRows (Replaced (e.0 i) (e.1.0 i)))
   one_of (ForRows (Replaces id date)) s = (asking.Replaces, refl, λ jd day t. let e = agree (ForRows (Replaces id date)) (ForRows (Replaces jd day)) refl (search rules) s t in λ i. ForRows (Replaces (e.0 i) (e.1.0 i)))
   one_of (ForRows (About kind id date)) s = (asking.About, refl, λ l jd day t. let e = agree (ForRows (About kind id date)) (ForRows (About l jd day)) refl (search rules) s t in λ i. ForRows (About (e.0 i) (e.1.0 i) (e.1.1.0 i)))

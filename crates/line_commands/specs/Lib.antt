@@ -1,5 +1,6 @@
 pub use Rattle.rf2_values.specs.Row
 pub use Rattle.rf2_values.specs.Time
+pub use Rattle.word_model.specs.Words
 pub use Rattle.question_model.specs.Questions
 pub mod Names
 pub mod Spelling

@@ -16,6 +16,7 @@ use Rattle.question_model.specs.Questions.{Question, question_of, ForRows, ForId
 use Rattle.question_model.specs.Questions.{Receipt, Added, Get, History, Terms, Search, Replaced}
 use Rattle.question_model.specs.Questions.{Replaces, About}
 use Rattle.question_model.specs.Questions.{Timeline, Page, Delta, Members, Values, Called, AllRows}
+use Rattle.question_model.specs.Questions.{Words as AskWords}
 use Rattle.question_model.specs.Questions.{Children, Ancestors, Descendants, Sources}
 use Rattle.line_commands.specs.Commands.{Command, Ask, word_of, SpellsArguments}
 use Rattle.line_commands.specs.Requests.{command_of, spaced}
@@ -38,6 +39,7 @@ example asking.Ancestors = ForIds (Ancestors 0 0)
 example asking.Descendants = ForIds (Descendants 0 0)
 example asking.Terms = ForRows (Terms [] 0 0)
 example asking.Search = ForRows (Search [] 0 None 0)
+example asking.Words = ForRows (AskWords 0 None 0 0 [])
 example asking.Replaced = ForRows (Replaced 0 0)
 example asking.Replaces = ForRows (Replaces 0 0)
 example asking.About = ForRows (About kinds.Concept 0 0)
@@ -71,6 +73,8 @@ EachOf asking.Descendants P = (id date : ℕ) → P (ForIds (Descendants id date
 EachOf asking.Terms P = (prefix : List ℕ) (date limit : ℕ) → P (ForRows (Terms prefix date limit))
 EachOf asking.Search P = (prefix : List ℕ) (date : ℕ) (after : Option ℕ) (limit : ℕ)
     → P (ForRows (Search prefix date after limit))
+EachOf asking.Words P = (date : ℕ) (wanted_type : Option ℕ) (offset limit : ℕ) (text : List ℕ)
+    → P (ForRows (AskWords date wanted_type offset limit text))
 EachOf asking.Replaced P = (id date : ℕ) → P (ForRows (Replaced id date))
 EachOf asking.Replaces P = (id date : ℕ) → P (ForRows (Replaces id date))
 EachOf asking.About P = (kind : Kind) (id date : ℕ) → P (ForRows (About kind id date))

@@ -1,5 +1,5 @@
 -- How questions are spelled.
-use Rattle.std.specs.Prelude.{◌≡◌, ℕ, ◌≤◌, ◌<◌, ◌^◌, List, [], ◌∷◌, length, codes, decimal, Option}
+use Rattle.std.specs.Prelude.{◌≡◌, ◌≢◌, ℕ, ◌≤◌, ◌<◌, ◌^◌, List, [], ◌∷◌, length, codes, decimal, Option}
 use Rattle.std.specs.Prelude.{Some, None}
 use Rattle.std.specs.Str.{IsUtf8}
 use Rattle.rf2_values.specs.declared.row.Kind.{Kind}
@@ -7,9 +7,11 @@ use Rattle.rf2_values.specs.declared.row.Kind.TheVariants as kinds
 use Rattle.rf2_values.specs.declared.key.Key.{Key}
 use Rattle.rf2_values.specs.Row.{IsIdOf, SpellsId, IsConcept, IsComponent}
 use Rattle.rf2_values.specs.Time.{IsTime}
+use Rattle.word_model.specs.Words.{words}
 use Rattle.question_model.specs.Questions.{Question, ForRows, ForIds, Dates, Digest, Receipt, Added}
 use Rattle.question_model.specs.Questions.{Get, History, Terms, Search, Replaced, Replaces, About}
 use Rattle.question_model.specs.Questions.{Timeline, Page, Delta, Members, Values, Called, AllRows}
+use Rattle.question_model.specs.Questions.{Words}
 use Rattle.question_model.specs.Questions.{Children, Ancestors, Descendants, Sources}
 
 -- the greatest number of rows that can be asked for
@@ -58,6 +60,8 @@ pub data Argument : Type 0 where
   Imported : (number : ℕ) → Argument
   Number : (number : ℕ) → Argument
   Text : (text : List ℕ) → Argument
+  -- a text with at least one word
+  WordsOf : (text : List ℕ) → Argument
 
 abbrev pub concept : ℕ → Argument
 concept id = Id (OfKind kinds.Concept) id
@@ -83,6 +87,7 @@ Spells (Limit limit) text = (1 ≤ limit) × (limit ≤ most_rows) × (text ≡ 
 Spells (Imported number) text = (1 ≤ number) × (number < 2 ^ 32) × (text ≡ decimal number)
 Spells (Number number) text = (number < 2 ^ 32) × (text ≡ decimal number)
 Spells (Text value) text = (1 ≤ length value) × IsUtf8 value × (text ≡ value)
+Spells (WordsOf value) text = (words value ≢ []) × IsUtf8 value × (text ≡ value)
 
 -- the texts spell the arguments, each its own
 abbrev pub SpellsAll : List Argument → List (List ℕ) → Type 0
@@ -114,6 +119,11 @@ form (ForRows (Terms prefix date limit)) =
 form (ForRows (Search prefix date after limit)) = (
   codes "SEARCH",
   Date date ∷ IdOrNone (OfKind kinds.Description) after ∷ Limit limit ∷ Text prefix ∷ [],
+)
+form (ForRows (Words date wanted_type offset limit text)) = (
+  codes "WORDS",
+  Date date ∷ IdOrNone (OfKind kinds.Concept) wanted_type ∷ Number offset ∷ Limit limit
+      ∷ WordsOf text ∷ [],
 )
 form (ForRows (Replaced id date)) = (codes "REPLACED", Id OfComponents id ∷ Date date ∷ [])
 form (ForRows (Replaces id date)) = (codes "REPLACES", Id OfComponents id ∷ Date date ∷ [])

@@ -4,7 +4,7 @@
 ghost use Rattle.std.specs.Prelude.{Some, codes, option_map};
 ghost use Rattle.line_commands.specs.Private.{IsReadAs, text_of_word};
 
-use crate::columns::{import_number, limit};
+use crate::columns::{any_number, limit};
 use crate::command::Command;
 use crate::names::release_name;
 use crate::questions::question;
@@ -14,7 +14,7 @@ fn at(text: &[u8]) -> Option<Command<'_>>
     ensures { IsReadAs (codes "AT") (Some text.now) result }
 {
     let (number, rest) = cut(text)?;
-    let number = import_number(number)?;
+    let number = any_number(number)?;
     let (word, rest) = first_word(rest);
     let word = question_word(word)?;
     match question(word, rest) {
@@ -44,7 +44,7 @@ fn check(text: &[u8]) -> Option<Command<'_>>
 fn pin(text: &[u8]) -> Option<Command<'_>>
     ensures { IsReadAs (codes "PIN") (Some text.now) result }
 {
-    match import_number(text) {
+    match any_number(text) {
         Some(number) => Some(Command::Pin {
             number: Some(number),
         }),

@@ -1,18 +1,20 @@
 //! Parses single arguments: each function returns the one value that a text spells, or none.
 
 ghost use Rattle.std.specs.Prelude.{◌≡◌, ◌≢◌, ◌≤◌, ◌<◌, ◌^◌, ℕ, Option, MatchOption, decimal};
-ghost use Rattle.std.specs.Prelude.{length, Some};
+ghost use Rattle.std.specs.Prelude.{length, Some, []};
 ghost use Rattle.std.specs.Str.{IsUtf8};
 ghost use Rattle.rf2_values.specs.Member.{SpellsMember};
 ghost use Rattle.rf2_values.specs.Row.{IsOfClass, IsComponent, IsIdOf, SpellsId};
 ghost use Rattle.rf2_values.specs.Time.{IsTime};
 ghost use Rattle.line_commands.specs.Spelling.{letter, IsSubjectOf, Spells, IdOrNone, OfKind};
 ghost use Rattle.line_commands.specs.Spelling.{OfComponents, KeyId, KeyDate};
+ghost use Rattle.word_model.specs.Words.{words};
 ghost use Rattle.rf2_values.specs.declared.key.Key.{Key};
 ghost use Rattle.line_commands.specs.Requests.{sessions};
 
 use crate::command::SESSIONS;
 use rf2_values::{Class, EffectiveTime, Key, Kind, Member, Sctid, number};
+use word_model::has_word;
 
 /// A session's number.
 pub(crate) fn session_number(text: &[u8]) -> Option<u16>
@@ -52,9 +54,9 @@ pub(crate) fn limit(text: &[u8], most: u32) -> Option<u32>
     }
 }
 
-/// A number from 0 to 2^32 - 1, without leading zeros: the number of an import, or how many
-/// imports. Whether there are as many imports is checked elsewhere.
-pub(crate) fn import_number(text: &[u8]) -> Option<u32>
+/// A number from 0 to 2^32 - 1, without leading zeros: the number of an import, or how many imports
+/// or rows. Whether there are as many is checked elsewhere.
+pub(crate) fn any_number(text: &[u8]) -> Option<u32>
     ensures { MatchOption result ((n : ℕ) → n < 2 ^ 32 → text.now ≢ decimal n)
         (λ n. (n < 2 ^ 32) × (text.now ≡ decimal n)) }
 {
@@ -146,7 +148,18 @@ pub(crate) fn prefix(text: &[u8]) -> Option<&str>
     }
 }
 
-/// The type of a relationship, or `-` for any type.
+/// A text in UTF-8 that has a word.
+pub(crate) fn text_of_words(text: &[u8]) -> Option<&str>
+    ensures { MatchOption result (words text.now ≢ [] → IsUtf8 text.now → ⊥)
+        (λ t. (words t.now ≢ []) × IsUtf8 t.now × (t.now ≡ text.now)) }
+{
+    match str::from_utf8(text) {
+        Ok(text) if has_word(text) => Some(text),
+        _ => None,
+    }
+}
+
+/// The type of a relationship or a description, or `-` for any type.
 pub(crate) fn type_of(text: &[u8]) -> Option<Option<Sctid>>
     ensures { MatchOption result
         ((o : Option ℕ) → Spells (IdOrNone (OfKind Kind.Concept) o) text.now → ⊥)

@@ -6,8 +6,8 @@ ghost use Rattle.line_commands.specs.Private.{IsQuestionReadAs, IsQuestionOf, co
 ghost use Rattle.line_commands.specs.Private.{text_of_question};
 
 use crate::columns::{
-    after, component, component_after, date, identifier, import_number, key_after, kind, limit,
-    prefix, sctid_of, subject, type_of,
+    after, any_number, component, component_after, date, identifier, key_after, kind, limit,
+    prefix, sctid_of, subject, text_of_words, type_of,
 };
 use crate::words::{QuestionWord, Words, cut_into};
 use question_model::{IdQuestion, Question, RowQuestion};
@@ -82,6 +82,23 @@ fn search(words: Words<'_>) -> Option<Question<'_>>
         date,
         after,
         limit,
+    }))
+}
+
+fn words_found(words: Words<'_>) -> Option<Question<'_>>
+    ensures { IsQuestionOf QuestionWord.Words words.entry result }
+{
+    let date = date(words.first)?;
+    let wanted_type = type_of(words.second)?;
+    let offset = any_number(words.third)?;
+    let limit = limit(words.fourth, MOST_ROWS)?;
+    let text = text_of_words(words.fifth)?;
+    Some(Question::ForRows(RowQuestion::Words {
+        date,
+        wanted_type,
+        offset,
+        limit,
+        text,
     }))
 }
 
@@ -229,7 +246,7 @@ fn receipt(words: Words<'_>) -> Option<Question<'_>>
 fn added(words: Words<'_>) -> Option<Question<'_>>
     ensures { IsQuestionOf QuestionWord.Added words.entry result }
 {
-    let number = import_number(words.first)?;
+    let number = any_number(words.first)?;
     let kind = kind(words.second)?;
     let after = key_after(kind, words.third, words.fourth)?;
     let limit = limit(words.fifth, MOST_ROWS)?;
@@ -261,7 +278,8 @@ fn columns_of(word: QuestionWord) -> usize
         | QuestionWord::Members
         | QuestionWord::Values
         | QuestionWord::AllRows => 4,
-        QuestionWord::Delta | QuestionWord::Sources | QuestionWord::Added => 5,
+        QuestionWord::Words | QuestionWord::Delta | QuestionWord::Sources | QuestionWord::Added =>
+            5,
     }
 }
 
@@ -277,6 +295,7 @@ fn read(word: QuestionWord, words: Words<'_>) -> Option<Question<'_>>
         QuestionWord::Descendants => descendants(words),
         QuestionWord::Terms => terms(words),
         QuestionWord::Search => search(words),
+        QuestionWord::Words => words_found(words),
         QuestionWord::Replaced => replaced(words),
         QuestionWord::Replaces => replaces(words),
         QuestionWord::About => about(words),

@@ -41,16 +41,16 @@ module _ {D : Type 0} (source : SourceView) (view : D → DiskView) (name : List
   lacking : (s : StoreValue D) → IsResponse (Err (refusals.Store store.OutOfMemory)) source view session (Check name) (server state s) (server state s)
   lacking s =
       carried_out source view (Err (refusals.Store store.OutOfMemory)) session (Check name) (Err (refusals.Store store.OutOfMemory)) Other (server state s) (server state s) source.releases refl
-      (λ line asks. record { replies = inl (session, Check name, asks, inr (inr (record { free = free; has_layout = λ later. later; comes_out = same_server state s; damage = refl }))); asked = tt })
-      (λ h line asks. record { replies = inl (session, Check name, asks, inr (inr (record { free = free; has_layout = λ later. later; comes_out = same_server state s; damage = refl }))); asked = tt })
+      (λ line asks. record { replies = inl (session, Check name, asks, inr (inr (record { free = free; has_all = λ later. later.1; comes_out = same_server state s; damage = refl }))); asked = tt })
+      (λ h line asks. record { replies = inl (session, Check name, asks, inr (inr (record { free = free; has_all = λ later. later.1; comes_out = same_server state s; damage = refl }))); asked = tt })
       (unmade view s) refl (unread s, none_known view source.releases name 0 s, λ release has. tt) (λ h. (unread s, none_known view source.releases name 0 s, λ release has. tt)) (omega arith)
 
   -- it has no release under the name
   missing : (s : StoreValue D) → (source.is_honest → source.releases (scope_of s.catalog) name ≡ None) → IsResponse (Err refusals.NoFolder) source view session (Check name) (server state s) (server state s)
   missing s none =
       carried_out source view (Err refusals.NoFolder) session (Check name) (Err refusals.NoFolder) Other (server state s) (server state s) (λ k n. None) refl
-      (λ line asks. record { replies = inl (session, Check name, asks, inr (inr (record { free = free; has_layout = λ later. later; comes_out = (name, refl, refl, refl); damage = refl }))); asked = tt })
-      (λ h line asks. record { replies = inl (session, Check name, asks, inr (inr (record { free = free; has_layout = λ later. later; comes_out = (name, refl, none h, refl); damage = refl }))); asked = tt })
+      (λ line asks. record { replies = inl (session, Check name, asks, inr (inr (record { free = free; has_all = λ later. later.1; comes_out = (name, refl, refl, refl); damage = refl }))); asked = tt })
+      (λ h line asks. record { replies = inl (session, Check name, asks, inr (inr (record { free = free; has_all = λ later. later.1; comes_out = (name, refl, none h, refl); damage = refl }))); asked = tt })
       (unmade view s) refl (unread s, none_known view (λ k n. None) name 0 s, λ release has. tt) (λ h. (unread s, none_known view source.releases name 0 s, λ release has. tt)) (omega arith)
 
   -- no release was had, for this reason
@@ -79,11 +79,11 @@ module _ {D : Type 0} (source : SourceView) (view : D → DiskView) (name : List
         let compared : IsComparedWith (full old.history) (IsStored view old) release (Ok (Done words)) = (c.kept.0.2.fresh, c.kept.0.2.brings) in
         carried_out source view (Ok reply) session (Check name) (Ok (Done (import_words receipt))) Other (server state old) (server state new) (λ k n. Some (files_of release)) told
         (λ line asks. record {
-          replies = inl (session, Check name, asks, inr (inr (record { free = free; has_layout = λ later. later; comes_out = (receipt, record { release = release; has = refl; at_all = any; checked = c.answer; pins = refl }, refl); damage = refl })));
+          replies = inl (session, Check name, asks, inr (inr (record { free = free; has_all = λ later. later.1; comes_out = (receipt, record { release = release; has = refl; at_all = any; checked = c.answer; pins = refl }, refl); damage = refl })));
           asked = tt;
         })
         (λ h line asks. record {
-          replies = inl (session, Check name, asks, inr (inr (record { free = free; has_layout = λ later. later; comes_out = (receipt, record { release = release; has = given h; at_all = any; checked = c.answer; pins = refl }, refl); damage = refl })));
+          replies = inl (session, Check name, asks, inr (inr (record { free = free; has_all = λ later. later.1; comes_out = (receipt, record { release = release; has = given h; at_all = any; checked = c.answer; pins = refl }, refl); damage = refl })));
           asked = tt;
         })
         (check_made view old new release (Ok receipt) c) c.meters.counts.failures (left (Ok (Done words)) compared (λ k n. Some (files_of release)) refl c) (λ h. left (Ok (Done words)) compared source.releases (given h) c) (omega (arith, same))
@@ -93,8 +93,8 @@ module _ {D : Type 0} (source : SourceView) (view : D → DiskView) (name : List
         → IsResponse (Err (refusals.Store e)) source view session (Check name) (server state old) (server (refused_by e state) new)
     unchecked e c =
         carried_out source view (Err (refusals.Store e)) session (Check name) (Err (refusals.Store e)) Other (server state old) (server (refused_by e state) new) (λ k n. Some (files_of release)) refl
-        (λ line asks. record { replies = inl (session, Check name, asks, inr (inr (record { free = free; has_layout = λ later. later; comes_out = refused (λ k n. Some (files_of release)) e refl refl; damage = refl }))); asked = tt })
-        (λ h line asks. record { replies = inl (session, Check name, asks, inr (inr (record { free = free; has_layout = λ later. later; comes_out = refused source.releases e refl (given h); damage = refl }))); asked = tt })
+        (λ line asks. record { replies = inl (session, Check name, asks, inr (inr (record { free = free; has_all = λ later. later.1; comes_out = refused (λ k n. Some (files_of release)) e refl refl; damage = refl }))); asked = tt })
+        (λ h line asks. record { replies = inl (session, Check name, asks, inr (inr (record { free = free; has_all = λ later. later.1; comes_out = refused source.releases e refl (given h); damage = refl }))); asked = tt })
         (check_made view old new release (Err e) c) c.meters.counts.failures (left (Err (refusals.Store e)) compared (λ k n. Some (files_of release)) refl c) (λ h. left (Err (refusals.Store e)) compared source.releases (given h) c) (refused_imports e old new c.kept.1) where
           compared : IsComparedWith (full old.history) (IsStored view old) release (Err (refusals.Store e))
           compared = refused_compared (IsStored view old) ⊥ old release e c.kept.0

@@ -14,7 +14,7 @@ use Rattle.line_server.specs.ReplyValue.{Answer}
 use Rattle.line_server.specs.declared.held.Held.{Held}
 use Rattle.line_server.specs.declared.held.Held.TheVariants as holds
 use Rattle.line_server.specs.StateValue.{HoldsBack, reason_of, met_by, met_after}
-use Rattle.line_server.specs.Replies.{Server, Replies, IsOutcome, IsStoreRefusal, IsRefusalAt, IsClosed, IsLacking, imports_seen}
+use Rattle.line_server.specs.Replies.{Server, Replies, Lacks, LacksFor, IsOutcome, IsStoreRefusal, IsRefusalAt, IsClosed, IsLacking, imports_seen}
 use Rattle.line_server.specs.Turns.{Turn, Run}
 use Rattle.line_server.specs.Laws.{DamageHoldsBack, HonestMeetsNoDamage}
 use Rattle.line_server.proofs.HeldBack.{change_of, not_both, reason_stays, held_stays}
@@ -26,12 +26,22 @@ is_damage _ = false
 
 -- ---- what is held back
 
+-- what a store lacks is no damage
+lack_for_holds : {D : Type 0} (question : Question) (s : StoreValue D) (held : Held) (lack : Refusal) → LacksFor question s lack → met_by (refusals.Store lack) held ≡ held
+lack_for_holds question s held store.Damaged lacks = absurd lacks
+lack_for_holds question s held lack lacks = refl
+
+lack_holds : {D : Type 0} (command : Command) (s : StoreValue D) (held : Held) (lack : Refusal) → Lacks command s lack → met_by (refusals.Store lack) held ≡ held
+lack_holds (Ask question) s held lack lacks = lack_for_holds question s held lack lacks
+lack_holds (At number question) s held lack lacks = lack_for_holds question s held lack lacks.1
+lack_holds command s held lack lacks = absurd lacks
+
 -- by the outcome of a line it is known what is held back after it
 pub met_by_line : {D : Type 0} (honest : Type 0) (releases : Releases) (line : List ℕ) (outcome : Result Answer LineRefusal) (old new : Server D) → Replies honest releases line outcome old new → new.held ≡ met_after outcome old.held
 met_by_line {D} honest releases line outcome old new (inl (session, command, asks, inl h)) =
     ap (λ (d : Server D). d.held) h.unchanged ∙ sym (ap (λ (o : Result Answer LineRefusal). met_after o old.held) h.refused ∙ reason_stays old.held command h.held_back)
 met_by_line {D} honest releases line outcome old new (inl (session, command, asks, inr (inl h))) =
-    ap (λ (d : Server D). d.held) h.unchanged ∙ sym (ap (λ (o : Result Answer LineRefusal). met_after o old.held) h.refused)
+    ap (λ (d : Server D). d.held) h.unchanged ∙ sym (ap (λ (o : Result Answer LineRefusal). met_after o old.held) h.refused ∙ lack_holds command old.store old.held h.lack h.lacks)
 met_by_line honest releases line outcome old new (inl (session, command, asks, inr (inr h))) = h.damage
 met_by_line {D} honest releases line outcome old new (inr r) =
     ap (λ (d : Server D). d.held) r.3 ∙ sym (ap (λ (o : Result Answer LineRefusal). met_after o old.held) r.2)
@@ -60,7 +70,7 @@ run_held D view has (turn ∷ turns) old new run some =
 pub refused_as_held : {D : Type 0} (honest : Type 0) (releases : Releases) (session : ℕ) (command : Command) (outcome : Result Answer LineRefusal) (old new : Server D) → HoldsBack old.held command → Settles honest releases session command outcome old new
     → (outcome ≡ Err (reason_of old.held)) × (new ≡ old)
 refused_as_held honest releases session command outcome old new is (inl h) = (h.refused, h.unchanged)
-refused_as_held honest releases session command outcome old new is (inr (inl h)) = absurd (not_both command old.store (change_of old.held command is) h.needs_later)
+refused_as_held honest releases session command outcome old new is (inr (inl h)) = absurd (not_both command old.store (change_of old.held command is) (h.lack, h.lacks))
 refused_as_held honest releases session command outcome old new is (inr (inr h)) = absurd (h.free is)
 
 pub damage_holds_back : (D : Type 0) (view : D → DiskView) → DamageHoldsBack D view

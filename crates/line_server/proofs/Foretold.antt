@@ -35,13 +35,13 @@ module _ {D : Type 0} (releases : Releases) (name : List ℕ) (one two : Result 
 
   settled : (session other : ℕ) → IsSure one → IsSure two → Settles honest releases session (Check name) one old checked → Settles also releases other (Import name) two checked new → two ≡ one
   settled session other u v (inl h) (inl k) = k.refused ∙ ap (λ (s : Server D). Err (reason_of s.held)) h.unchanged ∙ sym h.refused
-  settled session other u v (inl h) (inr (inl k)) = absurd k.needs_later
+  settled session other u v (inl h) (inr (inl k)) = absurd k.lacks
   settled session other u v (inl h) (inr (inr k)) = absurd (k.free (subst (λ (s : Server D). HoldsBack s.held (Import name)) (sym h.unchanged) (as_import old.held name name h.held_back)))
-  settled session other u v (inr (inl h)) k = absurd h.needs_later
+  settled session other u v (inr (inl h)) k = absurd h.lacks
   settled session other u v (inr (inr h)) (inl k) =
       let same : checked.held ≡ old.held = h.damage ∙ outcome_undamaged honest up releases old checked session (Check name) one h.comes_out in
       absurd (h.free (as_check old.held name name (subst (λ (k : Held). HoldsBack k (Import name)) same k.held_back)))
-  settled session other u v (inr (inr h)) (inr (inl k)) = absurd k.needs_later
+  settled session other u v (inr (inr h)) (inr (inl k)) = absurd k.lacks
   settled session other u v (inr (inr h)) (inr (inr k)) =
       with_release (check_told honest releases session name one old checked u h.comes_out) (import_told also releases other name two checked new v k.comes_out)
 

@@ -11,7 +11,7 @@ use Rattle.line_server.specs.declared.refusal.LineRefusal.{LineRefusal}
 use Rattle.line_server.specs.declared.refusal.LineRefusal.TheVariants as refusals
 use Rattle.line_server.specs.ReplyValue.{Answer}
 use Rattle.line_server.specs.StateValue.{HoldsBack, IsChange, reason_of, met_by, met_after}
-use Rattle.line_server.specs.Replies.{NeedsLater}
+use Rattle.line_server.specs.Replies.{LacksAny}
 use Rattle.line_server.specs.Turns.{CountsOutcome, IfRefused, IsComparedWith}
 
 -- whatever is held back is a change, or says what one would be answered
@@ -25,11 +25,11 @@ change_of holds.Confirming Publish h = tt
 change_of holds.Confirming command h = absurd h
 change_of holds.Changing command h = h
 
--- what is held back needs no later layout
-pub not_both : {D : Type 0} (command : Command) (s : StoreValue D) → IsChange command → NeedsLater command s → ⊥
+-- a store lacks nothing for what is held back
+pub not_both : {D : Type 0} (command : Command) (s : StoreValue D) → IsChange command → LacksAny command s → ⊥
 not_both (Ask question) s held later = held
 not_both (At number question) s held later = held
-not_both command s held later = later
+not_both command s held lacks = absurd lacks.1
 
 -- a check is held back where an import is, and the other way round
 pub as_import : (held : Held) (name other : List ℕ) → HoldsBack held (Check name) → HoldsBack held (Import other)

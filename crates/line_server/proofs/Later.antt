@@ -1,4 +1,5 @@
--- That only questions about members are answered 14, where the source gives no members unasked.
+-- That only questions about members are answered 14, where the source gives no members unasked, and
+-- only questions for words 16.
 use Rattle.std.proofs.Common.{◌≡◌, ◌≢◌, ◌⊎◌, ℕ, Bool, true, false, List, Some, Result, Err, refl, sym, ap, subst, ◌∙◌, inl, inr}
 use Rattle.std.proofs.lemmas.Bool.{false≢true}
 use Rattle.disk_model.specs.View.{DiskView}
@@ -16,17 +17,22 @@ use Rattle.line_server.specs.declared.refusal.LineRefusal.{LineRefusal}
 use Rattle.line_server.specs.declared.refusal.LineRefusal.TheVariants as refusals
 use Rattle.line_server.specs.Sources.{Releases}
 use Rattle.line_server.specs.ReplyValue.{Answer}
-use Rattle.line_server.specs.Replies.{Server, Replies, NeedsLater, IsOutcome, IsStoreRefusal, IsRefusalAt, IsClosed, IsLacking, imports_seen}
-use Rattle.line_server.specs.Laws.{GivesNoMembers, OnlyMembersNeedLater}
+use Rattle.line_server.specs.Replies.{Server, Replies, Lacks, IsOutcome, IsStoreRefusal, IsRefusalAt, IsClosed, IsLacking, imports_seen}
+use Rattle.line_server.specs.Laws.{GivesNoMembers, OnlyMembersNeedLater, OnlyWordsAreNotKept}
 use Rattle.line_server.specs.declared.held.Held.{Held}
 use Rattle.line_server.specs.declared.held.Held.TheVariants as holds
 use Rattle.line_server.specs.StateValue.{reason_of}
 use Rattle.line_server.proofs.HeldBack.{change_of, not_both}
 use Rattle.line_server.proofs.Pinned.{Settles, asked_outcome}
+use Rattle.line_server.proofs.Lacking.{one_lacks}
 
 abbrev is_later : Refusal → Bool
 is_later store.LaterVersion = true
 is_later _ = false
+
+later_lack : (lack : Refusal) → is_later lack ≡ true → lack ≡ store.LaterVersion
+later_lack store.LaterVersion e = refl
+later_lack lack e = absurd (false≢true e)
 
 abbrev comes_later : Result Answer LineRefusal → Bool
 comes_later (Err (refusals.Store refusal)) = is_later refusal
@@ -79,13 +85,80 @@ only_members_need_later D view releases line outcome old new none replies = (λ 
   honest : Type 0
   honest = (view old.store.disk).is_honest
 
-  needed : Replies honest releases line outcome old new → outcome ≡ Err (refusals.Store store.LaterVersion) → (session : ℕ) × (command : Command) × Asks line session command × NeedsLater command old.store
+  needed : Replies honest releases line outcome old new → outcome ≡ Err (refusals.Store store.LaterVersion) → (session : ℕ) × (command : Command) × Asks line session command × Lacks command old.store store.LaterVersion
   needed (inl (session, command, asks, inl h)) e = absurd (false≢true (sym (held_for_no_layout old.held) ∙ ap comes_later (sym h.refused ∙ e)))
-  needed (inl (session, command, asks, inr (inl h))) e = (session, command, asks, h.needs_later)
+  needed (inl (session, command, asks, inr (inl h))) e = (session, command, asks, subst (λ (lack : Refusal). Lacks command old.store lack) (later_lack h.lack (ap comes_later (sym h.refused ∙ e))) h.lacks)
   needed (inl (session, command, asks, inr (inr h))) e = absurd (performed_never honest releases none old new session command outcome h.comes_out e)
   needed (inr r) e = absurd (false≢true (ap comes_later (sym r.2 ∙ e)))
 
-  refused : (session : ℕ) (command : Command) → NeedsLater command old.store → Settles honest releases session command outcome old new → outcome ≡ Err (refusals.Store store.LaterVersion)
-  refused session command later (inl h) = absurd (not_both command old.store (change_of old.held command h.held_back) later)
-  refused session command later (inr (inl h)) = h.refused
-  refused session command later (inr (inr h)) = absurd (h.has_layout later)
+  refused : (session : ℕ) (command : Command) → Lacks command old.store store.LaterVersion → Settles honest releases session command outcome old new → outcome ≡ Err (refusals.Store store.LaterVersion)
+  refused session command later (inl h) = absurd (not_both command old.store (change_of old.held command h.held_back) (store.LaterVersion, later))
+  refused session command later (inr (inl h)) = h.refused ∙ ap (λ (lack : Refusal). Err (refusals.Store lack)) (one_lacks command old.store h.lack store.LaterVersion h.lacks later)
+  refused session command later (inr (inr h)) = absurd (h.has_all (store.LaterVersion, later))
+
+-- ---- words
+
+abbrev is_unkept : Refusal → Bool
+is_unkept store.NotKept = true
+is_unkept _ = false
+
+unkept_lack : (lack : Refusal) → is_unkept lack ≡ true → lack ≡ store.NotKept
+unkept_lack store.NotKept e = refl
+unkept_lack lack e = absurd (false≢true e)
+
+abbrev comes_unkept : Result Answer LineRefusal → Bool
+comes_unkept (Err (refusals.Store refusal)) = is_unkept refusal
+comes_unkept _ = false
+
+held_for_no_words : (held : Held) → comes_unkept (Err (reason_of held)) ≡ false
+held_for_no_words holds.Nothing = refl
+held_for_no_words holds.Confirming = refl
+held_for_no_words holds.Changing = refl
+
+module _ {D : Type 0} (honest : Type 0) (releases : Releases) (old new : Server D) where
+  unkept_closed : IsClosed store.NotKept old new → ⊥
+  unkept_closed c = false≢true (sym (ap is_unkept c.0))
+
+  unkept_listed : IsClosed store.NotKept old new ⊎ IsLacking store.NotKept old new → ⊥
+  unkept_listed (inl c) = unkept_closed c
+  unkept_listed (inr l) = false≢true (sym (ap is_unkept l.0))
+
+  unkept_asked : (seen : ℕ) (question : Question) → IsRefusalAt honest seen question store.NotKept old new → ⊥
+  unkept_asked seen (Receipt number) r = unkept_closed r.1
+  unkept_asked seen (Added number kind after limit) r = r.1.cause
+  unkept_asked seen (ForIds ids) r = unkept_listed r
+  unkept_asked seen Dates r = unkept_listed r
+  unkept_asked seen question r = r.cause
+
+  unkept_refused : (session : ℕ) (command : Command) → IsStoreRefusal honest releases session command store.NotKept old new → ⊥
+  unkept_refused session (Ask question) r = unkept_asked (imports_seen old session) question r
+  unkept_refused session (At number question) r = unkept_asked number question r.1
+  unkept_refused session (Import name) r = r.at_all.0.1
+  unkept_refused session (Check name) r = r.at_all.0.1
+  unkept_refused session (Pin number) r = r
+  unkept_refused session Unpin r = r
+  unkept_refused session Merge r = r.0.0.1.1
+  unkept_refused session (Step rows) r = r.0.0.1
+  unkept_refused session Publish r = r.0.0.1
+  unkept_refused session Abandon r = r.0.0.1
+  unkept_refused session Trim r = r.0.0
+  unkept_refused session Status r = unkept_closed r
+
+  unkept_performed : (session : ℕ) (command : Command) (outcome : Result Answer LineRefusal) → IsOutcome honest releases session command outcome old new → outcome ≢ Err (refusals.Store store.NotKept)
+  unkept_performed session command outcome out e = unkept_refused session command (subst (λ (o : Result Answer LineRefusal). IsOutcome honest releases session command o old new) e out)
+
+pub only_words_are_not_kept : (D : Type 0) (view : D → DiskView) → OnlyWordsAreNotKept D view
+only_words_are_not_kept D view releases line outcome old new replies = (λ e. wanted replies e, λ (session, command, asks, lacks). refused session command lacks (asked_outcome honest releases old new line session command outcome asks replies)) where
+  honest : Type 0
+  honest = (view old.store.disk).is_honest
+
+  wanted : Replies honest releases line outcome old new → outcome ≡ Err (refusals.Store store.NotKept) → (session : ℕ) × (command : Command) × Asks line session command × Lacks command old.store store.NotKept
+  wanted (inl (session, command, asks, inl h)) e = absurd (false≢true (sym (held_for_no_words old.held) ∙ ap comes_unkept (sym h.refused ∙ e)))
+  wanted (inl (session, command, asks, inr (inl h))) e = (session, command, asks, subst (λ (lack : Refusal). Lacks command old.store lack) (unkept_lack h.lack (ap comes_unkept (sym h.refused ∙ e))) h.lacks)
+  wanted (inl (session, command, asks, inr (inr h))) e = absurd (unkept_performed honest releases old new session command outcome h.comes_out e)
+  wanted (inr r) e = absurd (false≢true (ap comes_unkept (sym r.2 ∙ e)))
+
+  refused : (session : ℕ) (command : Command) → Lacks command old.store store.NotKept → Settles honest releases session command outcome old new → outcome ≡ Err (refusals.Store store.NotKept)
+  refused session command lacks (inl h) = absurd (not_both command old.store (change_of old.held command h.held_back) (store.NotKept, lacks))
+  refused session command lacks (inr (inl h)) = h.refused ∙ ap (λ (lack : Refusal). Err (refusals.Store lack)) (one_lacks command old.store h.lack store.NotKept h.lacks lacks)
+  refused session command lacks (inr (inr h)) = absurd (h.has_all (store.NotKept, lacks))

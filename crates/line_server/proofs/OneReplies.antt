@@ -27,7 +27,7 @@ use Rattle.import_check.specs.Release.{files_of}
 use Rattle.line_server.specs.ReplyValue.{Answer, Done}
 use Rattle.line_server.specs.declared.held.Held.{Held}
 use Rattle.line_server.specs.StateValue.{HoldsBack, reason_of, met_after}
-use Rattle.line_server.specs.Replies.{Server, Same, SameStore, IsChecked, import_words, imports_seen, left_of, IsAnswer, IsImported, IsClosed, IsStoreRefusal, IsOutcome, NamesRelease, NeedsLater, Replies}
+use Rattle.line_server.specs.Replies.{Server, Same, SameStore, IsChecked, import_words, imports_seen, left_of, IsAnswer, IsImported, IsClosed, IsStoreRefusal, IsOutcome, NamesRelease, Replies}
 use Rattle.history_store.specs.Checking.{HasFailed}
 use Rattle.history_store.specs.Prepared.{scope_of}
 use Rattle.line_server.specs.Laws.{OneReply, AreAlike, IsSure, without_sums}
@@ -36,6 +36,7 @@ use Rattle.line_server.proofs.AskedOf.{OutcomeAt, outcome_at}
 use Rattle.line_server.proofs.AddedRows.{added_out, one_added}
 use Rattle.line_server.proofs.Finding.{AsksFound, same_from, found_out, one_way}
 use Rattle.line_server.proofs.HeldBack.{change_of, not_both}
+use Rattle.line_server.proofs.Lacking.{lacks_too, one_lacks}
 use Rattle.line_server.proofs.Pinned.{Settles}
 use Rattle.line_server.proofs.Received.{receipt_out, one_receipt}
 use Rattle.store_life.proofs.OneImports.{one_import}
@@ -413,20 +414,10 @@ module _ {D : Type 0} (releases : Releases) (a b after next : Server D) (honest 
   one_outcome session c x y u v h k =
       one_told c session x y a b after next same (told honest up releases session a after c x tt u h) (told also so releases session b next c y tt v k)
 
--- a later layout is needed at both of two stores that are alike
-later_too : {D : Type 0} (c : Command) (s t : StoreValue D) → t.history ≡ s.history → without_sums t.catalog ≡ without_sums s.catalog → NeedsLater c s → NeedsLater c t
-later_too (Ask question) s t history catalog later = (ap (λ (k : Catalog). scope_of k) catalog ∙ later.0, later.1)
-later_too (At number question) s t history catalog later = (
-  subst (λ (h : History). number ≤ h.imports) (sym history) later.0,
-  ap (λ (k : Catalog). scope_of k) catalog ∙ later.1,
-  later.2,
-)
-later_too c s t history catalog later = later
-
 with_damage : {D : Type 0} (a b : Server D) → AreLike a b → b.held ≡ a.held → AreAlike a b
 with_damage a b same met = record { pins = same.pins; history = same.history; catalog = same.catalog; needs_reopen = same.needs_reopen; held = met }
 
-module _ {D : Type 0} (releases : Releases) (a b after next : Server D) (honest also : Type 0) (up : honest) (so : also) (same : AreLike a b) (met : b.held ≡ a.held) where
+module _ {D : Type 0} (releases : Releases) (a b after next : Server D) (honest also : Type 0) (up : honest) (so : also) (same : AreLike a b) (words : b.store.words ≡ a.store.words) (met : b.held ≡ a.held) where
   unchanged_alike : after ≡ a → next ≡ b → AreAlike after next
   unchanged_alike first second =
       with_damage after next (then_like a b after next same (same_from a after first) (same_from b next second))
@@ -439,14 +430,17 @@ module _ {D : Type 0} (releases : Releases) (a b after next : Server D) (honest 
     unchanged_alike h.unchanged k.unchanged,
   )
   one_settled session c x y u v (inr (inl h)) (inr (inl k)) = (
-    h.refused ∙ sym k.refused,
+    h.refused
+        ∙ ap (λ (lack : Refusal). Err (refusals.Store lack)) (one_lacks c b.store h.lack k.lack (lacks_too c a.store b.store h.lack same.history same.catalog words h.lacks) k.lacks)
+        ∙ sym k.refused,
     unchanged_alike h.unchanged k.unchanged,
   )
-  one_settled session c x y u v (inl h) (inr (inl k)) = absurd (not_both c b.store (change_of a.held c h.held_back) k.needs_later)
-  one_settled session c x y u v (inr (inl h)) (inl k) = absurd (not_both c a.store (change_of b.held c k.held_back) h.needs_later)
-  one_settled session c x y u v (inr (inl h)) (inr (inr k)) = absurd (k.has_layout (later_too c a.store b.store same.history same.catalog h.needs_later))
+  one_settled session c x y u v (inl h) (inr (inl k)) = absurd (not_both c b.store (change_of a.held c h.held_back) (k.lack, k.lacks))
+  one_settled session c x y u v (inr (inl h)) (inl k) = absurd (not_both c a.store (change_of b.held c k.held_back) (h.lack, h.lacks))
+  one_settled session c x y u v (inr (inl h)) (inr (inr k)) =
+      absurd (k.has_all (h.lack, lacks_too c a.store b.store h.lack same.history same.catalog words h.lacks))
   one_settled session c x y u v (inr (inr h)) (inr (inl k)) =
-      absurd (h.has_layout (later_too c b.store a.store (sym same.history) (sym same.catalog) k.needs_later))
+      absurd (h.has_all (k.lack, lacks_too c b.store a.store k.lack (sym same.history) (sym same.catalog) (sym words) k.lacks))
   one_settled session c x y u v (inl h) (inr (inr k)) = absurd (k.free (subst (λ (k : Held). HoldsBack k c) (sym met) h.held_back))
   one_settled session c x y u v (inr (inr h)) (inl k) = absurd (h.free (subst (λ (k : Held). HoldsBack k c) met k.held_back))
   one_settled session c x y u v (inr (inr h)) (inr (inr k)) =
@@ -467,6 +461,6 @@ module _ {D : Type 0} (releases : Releases) (a b after next : Server D) (honest 
   )
 
 pub one_reply : (D : Type 0) (view : D → DiskView) → OneReply D view
-one_reply D view releases line x y a b after next up so same h k u v =
+one_reply D view releases line x y a b after next up so same words h k u v =
     one_case releases a b after next (view a.store.disk).is_honest (view b.store.disk).is_honest up so
-    (record { pins = same.pins; history = same.history; catalog = same.catalog; needs_reopen = same.needs_reopen }) same.held line x y u v h k
+    (record { pins = same.pins; history = same.history; catalog = same.catalog; needs_reopen = same.needs_reopen }) words same.held line x y u v h k

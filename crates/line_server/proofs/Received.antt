@@ -8,12 +8,13 @@ use Rattle.history_model.specs.Brought.{IsLatestDay, ImportReceiptOf}
 use Rattle.history_model.proofs.Brought.{one_receipt_for_an_import}
 use Rattle.history_store.specs.declared.refusal.Refusal.{Refusal}
 use Rattle.history_store.specs.declared.refusal.Refusal.TheVariants as store
+use Rattle.history_store.specs.StoreValue.{StoreValue}
 use Rattle.question_model.specs.Questions.{Receipt}
 use Rattle.line_commands.specs.Commands.{Command}
 use Rattle.line_server.specs.declared.refusal.LineRefusal.{LineRefusal}
 use Rattle.line_server.specs.declared.refusal.LineRefusal.TheVariants as refusals
 use Rattle.line_server.specs.ReplyValue.{Answer, Done}
-use Rattle.line_server.specs.Replies.{Server, IsAskedOf, NeedsLater, receipt_of}
+use Rattle.line_server.specs.Replies.{Server, IsAskedOf, LacksAny, LacksFor, receipt_of}
 use Rattle.line_server.specs.Laws.{PinnedReceiptIsUndisturbed}
 use Rattle.store_life.specs.Laws.{BroughtAlike}
 use Rattle.line_server.proofs.AskedOf.{OutcomeAt}
@@ -69,10 +70,16 @@ module _ {D : Type 0} (m n number : ℕ) (x y : Result Answer LineRefusal) (a b 
   one_receipt (inr (inr h)) (inr (inl k)) = absurd (let within = k.1 in let above = h.0 in omega (arith, within, above, seen))
   one_receipt (inr (inr h)) (inr (inr k)) = h.1 ∙ sym k.1
 
--- a receipt needs no members
-pub no_members : {D : Type 0} (s : Server D) (session : ℕ) (command : Command) (number pin : ℕ) → IsAskedOf s session command (Receipt number) pin → NeedsLater command s.store → ⊥
-no_members s session command number pin (inl (is, at)) later = (subst (λ (c : Command). NeedsLater c s.store) is later).1
-no_members s session command number pin (inr (is, within)) later = (subst (λ (c : Command). NeedsLater c s.store) is later).2
+-- a store lacks nothing for a receipt
+receipt_lacks_none : {D : Type 0} (s : StoreValue D) (number : ℕ) (lack : Refusal) → LacksFor (Receipt number) s lack → ⊥
+receipt_lacks_none s number store.LaterVersion lacks = lacks.1
+receipt_lacks_none s number lack lacks = lacks
+
+pub no_members : {D : Type 0} (s : Server D) (session : ℕ) (command : Command) (number pin : ℕ) → IsAskedOf s session command (Receipt number) pin → LacksAny command s.store → ⊥
+no_members s session command number pin (inl (is, at)) lacks =
+    let own = subst (λ (c : Command). LacksAny c s.store) is lacks in receipt_lacks_none s.store number own.0 own.1
+no_members s session command number pin (inr (is, within)) lacks =
+    let own = subst (λ (c : Command). LacksAny c s.store) is lacks in receipt_lacks_none s.store number own.0 own.1.1
 
 pub receipt_undisturbed : (D : Type 0) (view : D → DiskView) → PinnedReceiptIsUndisturbed D view
 receipt_undisturbed D view releases others a b after next line text session other pin number command also one two needs asks asked at to alike ra rb =

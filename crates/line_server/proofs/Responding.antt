@@ -26,7 +26,7 @@ use Rattle.line_server.specs.declared.refusal.LineRefusal.TheVariants as refusal
 use Rattle.line_server.specs.Pins.{AreWithin, pin_of}
 use Rattle.line_server.specs.Sources.{Releases, SourceView, source_view}
 use Rattle.line_server.specs.ReplyValue.{Answer, Done, ReplyValue, reply_value}
-use Rattle.line_server.specs.Replies.{IsUnseen, Server, imports_seen, IsFound, IsAnswer, IsAnswerAt, IsRefusalAt, IsClosed, IsLacking, IsOutOfRange, NeedsLater, Replies, receipt_of, status_of, server}
+use Rattle.line_server.specs.Replies.{IsUnseen, Server, imports_seen, IsFound, IsAnswer, IsAnswerAt, IsRefusalAt, IsClosed, IsLacking, IsOutOfRange, Lacks, LacksAny, Replies, receipt_of, status_of, server}
 use Rattle.store_life.specs.Life.{Other}
 use Rattle.line_server.specs.Turns.{CountsOutcome, GoesBy, HasTurn, IfRefused, IsComparedWith, IsToldBy, LeavesAsked, LeavesDisk}
 use Rattle.line_server.specs.StateValue.{StateValue, IsChange, HoldsBack, reason_of}
@@ -96,11 +96,11 @@ module _ {D : Type 0} (view : D → DiskView) (pin : ℕ) (s : StoreValue D) whe
 module _ {D : Type 0} (view : D → DiskView) (s : StoreValue D) where
   pub status_told : (reply : ReplyValue) → s.needs_reopen ≡ false → reply ≡ reply_value (Ok (Done (status_of s))) → IsCarriedOut (Ok reply) view Status s s
   status_told reply still told has session state free =
-      responded view (Ok reply) has session Status (Ok (Done (status_of s))) (server state s) (server state s) free (λ later. later) refl told (still, refl, refl) (unmade view s) refl refl (omega arith)
+      responded view (Ok reply) has session Status (Ok (Done (status_of s))) (server state s) (server state s) free (λ later. later.1) refl told (still, refl, refl) (unmade view s) refl refl (omega arith)
 
   pub status_closed : s.needs_reopen ≡ true → IsCarriedOut (Err (refusals.Store store.ReopenNeeded)) view Status s s
   status_closed needs has session state free =
-      responded view (Err (refusals.Store store.ReopenNeeded)) has session Status (Err (refusals.Store store.ReopenNeeded)) (server state s) (server state s) free (λ later. later) refl refl
+      responded view (Err (refusals.Store store.ReopenNeeded)) has session Status (Err (refusals.Store store.ReopenNeeded)) (server state s) (server state s) free (λ later. later.1) refl refl
       (refl, needs, refl) (unmade view s) refl refl (omega arith)
 
 -- ---- whatever the source has
@@ -123,7 +123,7 @@ repinned state session pin = record state { pins = slice_set state.pins session 
 module _ {D : Type 0} (source : SourceView) (view : D → DiskView) (session : ℕ) (state : StateValue) (s : StoreValue D) where
   pub unpinned : (reply : ReplyValue) → reply ≡ reply_value (Ok (Done [])) → IsResponse (Ok reply) source view session Unpin (server state s) (server (repinned state session None) s)
   unpinned reply told = any_source source view (Ok reply) session Unpin (server state s) (server (repinned state session None) s)
-      (responded view (Ok reply) source.releases session Unpin (Ok (Done [])) (server state s) (server (repinned state session None) s) (change_of state.held Unpin) (λ later. later) refl told (refl, refl) (unmade view s) refl refl (omega arith))
+      (responded view (Ok reply) source.releases session Unpin (Ok (Done [])) (server state s) (server (repinned state session None) s) (change_of state.held Unpin) (λ later. later.1) refl told (refl, refl) (unmade view s) refl refl (omega arith))
 
 -- ---- PIN
 
@@ -131,7 +131,7 @@ module _ {D : Type 0} (view : D → DiskView) (session : ℕ) (state : StateValu
   pub pinned : (pin : ℕ) (reply : ReplyValue) → (pin ≤ s.history.imports) × (pin ≡ unwrap_or number s.history.imports) → reply ≡ reply_value (Ok (Done (decimal pin ∷ [])))
       → IsResponse (Ok reply) (source_view (Unit {0}) has) view session (Pin number) (server state s) (server (repinned state session (Some pin)) s)
   pinned pin reply h told =
-      responded view (Ok reply) has session (Pin number) (Ok (Done (decimal pin ∷ []))) (server state s) (server (repinned state session (Some pin)) s) (change_of state.held (Pin number)) (λ later. later) refl told
+      responded view (Ok reply) has session (Pin number) (Ok (Done (decimal pin ∷ []))) (server state s) (server (repinned state session (Some pin)) s) (change_of state.held (Pin number)) (λ later. later.1) refl told
       (answered_so number h) (unmade view s) refl refl (omega arith) where
         answered_so : (number : Option ℕ) → (pin ≤ s.history.imports) × (pin ≡ unwrap_or number s.history.imports)
             → IsAnswer (view s.disk).is_honest has session (Pin number) (Done (decimal pin ∷ [])) (server state s) (server (repinned state session (Some pin)) s)
@@ -140,7 +140,7 @@ module _ {D : Type 0} (view : D → DiskView) (session : ℕ) (state : StateValu
 
   pub out_of_range : (n : ℕ) × (number ≡ Some n) × (s.history.imports < n) → IsResponse (Err refusals.PinRange) (source_view (Unit {0}) has) view session (Pin number) (server state s) (server state s)
   out_of_range h =
-      responded view (Err refusals.PinRange) has session (Pin number) (Err refusals.PinRange) (server state s) (server state s) (change_of state.held (Pin number)) (λ later. later) refl refl
+      responded view (Err refusals.PinRange) has session (Pin number) (Err refusals.PinRange) (server state s) (server state s) (change_of state.held (Pin number)) (λ later. later.1) refl refl
       (subst (λ (o : Option ℕ). IsOutOfRange session (Pin o) (server state s)) (sym h.1) h.2, refl) (unmade view s) refl refl (omega arith)
 
 -- ---- RECEIPT
@@ -185,8 +185,8 @@ added_unseen view number kind after limit pin s unseen =
 
 module _ {D : Type 0} (view : D → DiskView) (number : ℕ) (question : Question) (old new : StoreValue D) where
   -- as the question is answered that is asked of the first so many imports
-  pub asked_behind : (result : Result ReplyValue LineRefusal) → (NeedsLater (At number question) old → ⊥) → number ≤ old.history.imports → IsQueried result view question number old new → IsCarriedOut result view (At number question) old new
-  asked_behind result has_layout within r has session state free = r has session state (At number question) (inr (refl, within)) has_layout
+  pub asked_behind : (result : Result ReplyValue LineRefusal) → (LacksAny (At number question) old → ⊥) → number ≤ old.history.imports → IsQueried result view question number old new → IsCarriedOut result view (At number question) old new
+  asked_behind result has_all within r has session state free = r has session state (At number question) (inr (refl, within)) has_all
 
   -- there are fewer imports
   pub above_all : old.history.imports < number → IsCarriedOut (Err refusals.PinRange) view (At number question) old old
@@ -290,13 +290,21 @@ module _ {D : Type 0} (source : SourceView) (view : D → DiskView) (line : List
         refused_turn session command s (reason_of s.held) asks (λ releases. inl (session, command, asks, inl (record { held_back = held; refused = refl; unchanged = refl })))
         (λ releases. change_left (reason_of s.held) (reason_kept s.held) (λ release. reason_compares s.held (full s.store.history) (IsStored view s.store) release) releases (imports_seen s session) command (change_of s.held command held)) (reason_counts s.held (view s.store.disk).failures)
 
-    -- the command needs a later layout
-    later_left : (releases : Releases) (seen : ℕ) (c : Command) → NeedsLater c s.store → LeavesDisk view releases seen c (Err (refusals.Store store.LaterVersion)) s.store s.store
-    later_left releases seen (Ask question) h = unasked_left view seen question (refusals.Store store.LaterVersion) s.store
-    later_left releases seen (At number question) h = unasked_left view number question (refusals.Store store.LaterVersion) s.store
-    later_left releases seen c h = absurd h
+    -- the store lacks what the command needs
+    lack_left : (lack : Refusal) (releases : Releases) (seen : ℕ) (c : Command) → Lacks c s.store lack → LeavesDisk view releases seen c (Err (refusals.Store lack)) s.store s.store
+    lack_left lack releases seen (Ask question) h = unasked_left view seen question (refusals.Store lack) s.store
+    lack_left lack releases seen (At number question) h = unasked_left view number question (refusals.Store lack) s.store
+    lack_left lack releases seen c h = absurd h
 
-    pub for_later : NeedsLater command s.store → HasTurn source view line s s (λ turn. IsToldBy (Err (refusals.Store store.LaterVersion)) turn.outcome)
-    for_later needs =
-        refused_turn session command s (refusals.Store store.LaterVersion) asks (λ releases. inl (session, command, asks, inr (inl (record { needs_later = needs; refused = refl; unchanged = refl }))))
-        (λ releases. later_left releases (imports_seen s session) command needs) refl
+    -- nor is it counted as a failure of the disk
+    lack_counts : (lack : Refusal) (c : Command) (failures : ℕ) → Lacks c s.store lack → CountsOutcome (Err (refusals.Store lack)) failures failures
+    lack_counts store.LaterVersion c failures h = refl
+    lack_counts store.NotKept c failures h = refl
+    lack_counts lack (Ask question) failures h = absurd h
+    lack_counts lack (At number question) failures h = absurd h.1
+    lack_counts lack c failures h = absurd h
+
+    pub for_lack : (lack : Refusal) → Lacks command s.store lack → HasTurn source view line s s (λ turn. IsToldBy (Err (refusals.Store lack)) turn.outcome)
+    for_lack lack lacks =
+        refused_turn session command s (refusals.Store lack) asks (λ releases. inl (session, command, asks, inr (inl (record { lack = lack; lacks = lacks; refused = refl; unchanged = refl }))))
+        (λ releases. lack_left lack releases (imports_seen s session) command lacks) (lack_counts lack command (view s.store.disk).failures lacks)

@@ -24,7 +24,7 @@ use Rattle.line_server.specs.ReplyValue.{Answer, Done}
 use Rattle.line_commands.specs.declared.unread.Unread.TheVariants as unread
 use Rattle.line_server.specs.declared.held.Held.TheVariants as holds
 use Rattle.line_server.specs.StateValue.{IsHeldBack, IsChange}
-use Rattle.line_server.specs.Replies.{Server, Replies, IsFound, IsAskedOf, NeedsLater}
+use Rattle.line_server.specs.Replies.{Server, Replies, IsFound, IsAskedOf, Lacks, LacksAny}
 use Rattle.line_server.specs.Replies.{receipt_of}
 use Rattle.store_life.specs.Life.{Imported, taken, Called, IsLife}
 use Rattle.store_life.specs.Laws.{AgreeUpTo, BroughtAlike}
@@ -38,8 +38,8 @@ IsSure (Err (refusals.Store store.DiskFault)) = ⊥
 IsSure _ = Unit {0}
 
 -- A question is answered alike in two states in which it is asked about the same number of imports,
--- the histories agree up to it, and no later layout is needed. So a question after AT is answered
--- as in a session that is pinned to these imports.
+-- the histories agree up to it, and neither store lacks what it needs. So a question after AT is
+-- answered as in a session that is pinned to these imports.
 abbrev pub PinnedIsUndisturbed : (D : Type 0) → (D → DiskView) → Type 0
 PinnedIsUndisturbed D view = (releases others : Releases) (a b after next : Server D)
     (line text : List ℕ) (session other pin : ℕ) (command also : Command) (question : Question)
@@ -48,7 +48,7 @@ PinnedIsUndisturbed D view = (releases others : Releases) (a b after next : Serv
     → b.store.needs_reopen ≡ false
     → Asks line session command → Asks text other also
     → IsAskedOf a session command question pin → IsAskedOf b other also question pin
-    → (NeedsLater command a.store → ⊥) → (NeedsLater also b.store → ⊥)
+    → (LacksAny command a.store → ⊥) → (LacksAny also b.store → ⊥)
     → IsFound question (rows_at pin a.store.history.rows) query
     → AgreeUpTo pin a.store.history b.store.history
     → Replies (view a.store.disk).is_honest releases line one a after
@@ -93,11 +93,13 @@ pub record AreAlike {D : Type 0} (a b : Server D) : Type 0 where
   pub needs_reopen : b.store.needs_reopen ≡ a.store.needs_reopen
   pub held : b.held ≡ a.held
 
--- A line has one reply in states that are equal in this sense, and leaves states that are so too.
+-- A line has one reply in states that are equal in this sense, and leaves states that are so too,
+-- if both stores keep words or neither does.
 abbrev pub OneReply : (D : Type 0) → (D → DiskView) → Type 0
 OneReply D view = (releases : Releases) (line : List ℕ) (one two : Result Answer LineRefusal)
     (a b after next : Server D)
     → (view a.store.disk).is_honest → (view b.store.disk).is_honest → AreAlike a b
+    → b.store.words ≡ a.store.words
     → Replies (view a.store.disk).is_honest releases line one a after
     → Replies (view b.store.disk).is_honest releases line two b next → IsSure one → IsSure two
     → (one ≡ two) × AreAlike after next
@@ -168,7 +170,16 @@ OnlyMembersNeedLater D view =
     → GivesNoMembers releases
     → Replies (view old.store.disk).is_honest releases line outcome old new
     → (outcome ≡ Err (refusals.Store store.LaterVersion)) ↔ ((session : ℕ) × (command : Command)
-    × Asks line session command × NeedsLater command old.store)
+    × Asks line session command × Lacks command old.store store.LaterVersion)
+
+-- Exactly those lines are answered 16 that ask for words, of a store that leaves them out, whatever
+-- the disk does.
+abbrev pub OnlyWordsAreNotKept : (D : Type 0) → (D → DiskView) → Type 0
+OnlyWordsAreNotKept D view =
+    (releases : Releases) (line : List ℕ) (outcome : Result Answer LineRefusal) (old new : Server D)
+    → Replies (view old.store.disk).is_honest releases line outcome old new
+    → (outcome ≡ Err (refusals.Store store.NotKept)) ↔ ((session : ℕ) × (command : Command)
+    × Asks line session command × Lacks command old.store store.NotKept)
 
 -- an import that was answered OK is the one that its turn records
 abbrev pub OkIsImported : (D : Type 0) → (D → DiskView) → Type 0
@@ -216,14 +227,14 @@ RunKeepsPin D view =
     × AgreeUpTo pin new.store.history old.store.history
     × ((number : ℕ) → number ≤ pin → BroughtAlike number new.store.history old.store.history)
 
--- As long as a session stays pinned, each of its questions that needs no later layout is answered
--- from what the pin showed in the beginning.
+-- As long as a session stays pinned, each of its questions for which the store lacks nothing is
+-- answered from what the pin showed in the beginning.
 abbrev pub PinnedSeesItsImports : (D : Type 0) → (D → DiskView) → Type 0
 PinnedSeesItsImports D view =
     (has : Releases) (session pin : ℕ) (start : Server D) (turns : List Turn) (turn : Turn)
     (question : Question) (query : Answer)
     → (stays : StaysPinned has view session pin start turns turn)
-    → Asks turn.line session (Ask question) → (NeedsLater (Ask question) stays.mid.store → ⊥)
+    → Asks turn.line session (Ask question) → (LacksAny (Ask question) stays.mid.store → ⊥)
     → IsFound question (rows_at pin start.store.history.rows) query
     → IsSure turn.outcome → turn.outcome ≡ Ok query
 
@@ -239,7 +250,7 @@ PinnedSeesItsReceipts D view =
     → turn.outcome ≡ Ok (Done (receipt_of number brought latest))
 
 -- In any two runs from histories that agree up to its pin, a session gets the same answers,
--- whatever the other sessions do, unless a question needs a later layout.
+-- whatever the other sessions do, unless the store lacks what a question needs.
 abbrev pub PinnedRunsAreUndisturbed : (D : Type 0) → (D → DiskView)
     → Type 0
 PinnedRunsAreUndisturbed D view =
@@ -249,8 +260,8 @@ PinnedRunsAreUndisturbed D view =
     → (second : StaysPinned others view session pin b also two)
     → AgreeUpTo pin a.store.history b.store.history
     → one.line ≡ two.line → Asks one.line session (Ask question)
-    → (NeedsLater (Ask question) first.mid.store → ⊥)
-    → (NeedsLater (Ask question) second.mid.store → ⊥)
+    → (LacksAny (Ask question) first.mid.store → ⊥)
+    → (LacksAny (Ask question) second.mid.store → ⊥)
     → IsFound question (rows_at pin a.store.history.rows) query
     → IsSure one.outcome → IsSure two.outcome → one.outcome ≡ two.outcome
 

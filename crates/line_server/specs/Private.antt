@@ -10,7 +10,7 @@ use Rattle.line_commands.specs.Requests.{Asks}
 use Rattle.line_server.specs.declared.refusal.LineRefusal.{LineRefusal}
 use Rattle.line_server.specs.Sources.{Releases, SourceView, source_view}
 use Rattle.line_server.specs.ReplyValue.{ReplyValue}
-use Rattle.line_server.specs.Replies.{server, Server, IsAskedOf, NeedsLater}
+use Rattle.line_server.specs.Replies.{server, Server, IsAskedOf, LacksAny}
 use Rattle.line_server.specs.StateValue.{StateValue, HoldsBack, met_after}
 use Rattle.line_server.specs.Turns.{HasTurn, IsToldBy}
 
@@ -43,12 +43,12 @@ abbrev pub QuestionCanBeAsked : Question → Type 0
 QuestionCanBeAsked question = (arguments : List (List ℕ)) × SpellsQuestion question arguments
 
 -- the question was answered with this result, for any session and command that ask it about this
--- number of imports and need no later layout
+-- number of imports, if the store lacks nothing for them
 abbrev pub IsQueried : {D : Type 0} → Result ReplyValue LineRefusal → (D → DiskView) → Question → ℕ
     → StoreValue D → StoreValue D → Type 0
 IsQueried result view question pin old new =
     (has : Releases) (session : ℕ) (state : StateValue) (command : Command)
-    → IsAskedOf (server state old) session command question pin → (NeedsLater command old → ⊥)
+    → IsAskedOf (server state old) session command question pin → (LacksAny command old → ⊥)
     → IsResponse result (source_view (Unit {0}) has) view session command (server state old)
     (server (noted result state) new)
 

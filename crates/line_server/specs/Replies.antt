@@ -32,6 +32,7 @@ use Rattle.question_model.specs.Questions.{Question, ForRows, ForIds, Dates as A
 use Rattle.question_model.specs.Questions.{Receipt as AskReceipt, Added}
 use Rattle.question_model.specs.Wanted.{rows_for, AreIdsFor}
 use Rattle.index_answers.specs.Keys.{SameKeysFor}
+use Rattle.index_answers.specs.Words.{lacks_words}
 use Rattle.line_commands.specs.Commands.{Command, Ask, At, Import, Check, Pin, Unpin, Merge, Step}
 use Rattle.line_commands.specs.Commands.{Publish, Abandon, Trim, Status}
 use Rattle.line_commands.specs.Requests.{Asks, IsUnread}
@@ -362,14 +363,23 @@ NeedsMembers (ForRows question) = AsksMembers question
 NeedsMembers (Added number kind after limit) = kind ≡ kinds.Member
 NeedsMembers _ = ⊥
 
--- the command needs a later layout than the store's: it asks a question that needs members, and
--- the store keeps none; after AT, about imports that the store has
-abbrev pub NeedsLater : {D : Type 0} → Command → StoreValue D → Type 0
-NeedsLater (Ask question) store =
-    (scope_of store.catalog ≡ scopes.Basic) × NeedsMembers question
-NeedsLater (At number question) store = (number ≤ store.history.imports)
-    × (scope_of store.catalog ≡ scopes.Basic) × NeedsMembers question
-NeedsLater command store = ⊥
+-- What the store lacks for the question, by its refusal: a later layout, if the question needs
+-- members and the store's layout keeps none; or words, if it is for words.
+abbrev pub LacksFor : {D : Type 0} → Question → StoreValue D → Refusal → Type 0
+LacksFor question s store.LaterVersion =
+    (scope_of s.catalog ≡ scopes.Basic) × NeedsMembers question
+LacksFor (ForRows question) s store.NotKept = lacks_words question s.words ≡ true
+LacksFor question s refusal = ⊥
+
+-- what the store lacks for the command; after AT, about imports that the store has
+abbrev pub Lacks : {D : Type 0} → Command → StoreValue D → Refusal → Type 0
+Lacks (Ask question) s refusal = LacksFor question s refusal
+Lacks (At number question) s refusal =
+    (number ≤ s.history.imports) × LacksFor question s refusal
+Lacks command s refusal = ⊥
+
+abbrev pub LacksAny : {D : Type 0} → Command → StoreValue D → Type 0
+LacksAny command s = (refusal : Refusal) × Lacks command s refusal
 
 -- The command is held back: it is refused for that reason, and nothing changes.
 pub record IsRefusedAsHeld {D : Type 0} (command : Command) (outcome : Result Answer LineRefusal)
@@ -378,30 +388,31 @@ pub record IsRefusedAsHeld {D : Type 0} (command : Command) (outcome : Result An
   pub refused : outcome ≡ Err (reason_of old.held)
   pub unchanged : new ≡ old
 
--- The command needs a later layout: it is refused with 14, and nothing changes.
-pub record IsRefusedForLayout {D : Type 0} (command : Command) (outcome : Result Answer LineRefusal)
+-- The store lacks what the command needs: it is refused so, and nothing changes.
+pub record IsRefusedForLack {D : Type 0} (command : Command) (outcome : Result Answer LineRefusal)
     (old new : Server D) : Type 0 where
-  pub needs_later : NeedsLater command old.store
-  pub refused : outcome ≡ Err (refusals.Store store.LaterVersion)
+  pub lack : Refusal
+  pub lacks : Lacks command old.store lack
+  pub refused : outcome ≡ Err (refusals.Store lack)
   pub unchanged : new ≡ old
 
--- The command isn't held back, and needs no later layout. It has this outcome, which decides what
--- is held back from then on.
+-- The command isn't held back, and the store lacks nothing for it. It has this outcome, which
+-- decides what is held back from then on.
 pub record IsPerformed {D : Type 0} (honest : Type 0) (releases : Releases) (session : ℕ)
     (command : Command) (outcome : Result Answer LineRefusal) (old new : Server D) : Type 0 where
   pub free : HoldsBack old.held command → ⊥
-  pub has_layout : NeedsLater command old.store → ⊥
+  pub has_all : LacksAny command old.store → ⊥
   pub comes_out : IsOutcome honest releases session command outcome old new
   pub damage : new.held ≡ met_after outcome old.held
 
 -- A line that spells a request is answered by the outcome of its command, or refused because it is
--- held back or a later layout is needed. Any other line is refused with the first reason why it is
--- no request, and nothing changes.
+-- held back or the store lacks what it needs. Any other line is refused with the first reason why
+-- it is no request, and nothing changes.
 abbrev pub Replies : {D : Type 0} → Type 0 → Releases → List ℕ → Result Answer LineRefusal
     → Server D → Server D → Type 0
 Replies honest releases text outcome old new =
     ((session : ℕ) × (command : Command) × Asks text session command
-    × (IsRefusedAsHeld command outcome old new ⊎ IsRefusedForLayout command outcome old new
+    × (IsRefusedAsHeld command outcome old new ⊎ IsRefusedForLack command outcome old new
     ⊎ IsPerformed honest releases session command outcome old new))
     ⊎
     ((reason : Unread) × IsUnread text reason × (outcome ≡ Err (refusals.Unread reason))

@@ -1,11 +1,13 @@
 //! Answers questions about the first imports, up to a pin.
 
 ghost use Rattle.std.specs.Prelude.{◌≤◌, ℕ, List, Option};
-ghost use Rattle.std.specs.Prelude.{◌↔◌, IsTrue};
+ghost use Rattle.std.specs.Prelude.{◌↔◌, IsTrue, MatchOption};
 ghost use Rattle.line_commands.specs.Commands.{At};
 ghost use Rattle.line_commands.specs.Requests.{command_of};
 ghost use Rattle.question_model.specs.Questions.{question_of, row_question_of};
-ghost use Rattle.line_server.specs.Replies.{AsksMembers, NeedsLater, NeedsMembers};
+ghost use Rattle.history_store.specs.declared.refusal.Refusal.{Refusal};
+ghost use Rattle.history_store.specs.declared.refusal.Refusal.TheVariants as refusals;
+ghost use Rattle.line_server.specs.Replies.{AsksMembers, NeedsMembers, Lacks, LacksAny, LacksFor};
 ghost use Rattle.line_server.specs.Private.{IsCarriedOut, IsQueried, QuestionCanBeAsked};
 
 use crate::queries::{
@@ -14,7 +16,7 @@ use crate::queries::{
 use crate::refusal::LineRefusal;
 use crate::reply::Reply;
 use disk_model::Disk;
-use history_store::Store;
+use history_store::{Refusal, Store, Words};
 use import_check::Scope;
 use line_commands::Command;
 use question_model::{Question, RowQuestion};
@@ -50,19 +52,51 @@ fn needs_members(question: &Question<'_>) -> bool
     }
 }
 
-/// Whether the command needs a later layout than the store's.
-pub(crate) fn needs_later<D: Disk>(command: &Command<'_>, store: &Store<D>) -> bool
-    ensures { IsTrue result ↔ NeedsLater (command_of command.now) store.now }
+/// Whether the question is for words, and the store leaves them out.
+fn lacks_words<D: Disk>(question: &Question<'_>, store: &Store<D>) -> bool
+    ensures { IsTrue result ↔ LacksFor (question_of question.now) store.now refusals.NotKept }
 {
-    match store.scope() {
-        Scope::Whole => false,
-        Scope::Basic => match command {
-            Command::Ask(question) => needs_members(question),
-            Command::At { number, question } => {
-                *number <= store.imports() && needs_members(question)
-            }
-            _ => false,
-        },
+    match question {
+        Question::ForRows(RowQuestion::Words { .. }) => store.keeps_words() == Words::LeftOut,
+        _ => false,
+    }
+}
+
+/// Whether the question needs members, and the store's layout keeps none.
+fn lacks_members<D: Disk>(question: &Question<'_>, store: &Store<D>) -> bool
+    ensures { IsTrue result ↔ LacksFor (question_of question.now) store.now refusals.LaterVersion }
+{
+    store.scope() == Scope::Basic && needs_members(question)
+}
+
+/// What the store lacks for the question, as it is refused.
+#[tactic(auto, using(crate::proofs::Lacking::none_lacking))]
+fn lack_for<D: Disk>(question: &Question<'_>, store: &Store<D>) -> Option<Refusal>
+    ensures { MatchOption result
+        ((lack : Refusal) → LacksFor (question_of question.now) store.now lack → ⊥)
+        (LacksFor (question_of question.now) store.now) }
+{
+    if lacks_members(question, store) {
+        Some(Refusal::LaterVersion)
+    } else if lacks_words(question, store) {
+        Some(Refusal::NotKept)
+    } else {
+        None
+    }
+}
+
+/// What the store lacks for the command, as it is refused.
+pub(crate) fn lack_of<D: Disk>(command: &Command<'_>, store: &Store<D>) -> Option<Refusal>
+    ensures { MatchOption result
+        ((lack : Refusal) → Lacks (command_of command.now) store.now lack → ⊥)
+        (Lacks (command_of command.now) store.now) }
+{
+    match command {
+        Command::Ask(question) => lack_for(question, store),
+        Command::At { number, question } if *number <= store.imports() => {
+            lack_for(question, store)
+        }
+        _ => None,
     }
 }
 
@@ -100,7 +134,7 @@ pub(crate) fn ask_at<D: Disk>(
     store: &mut Store<D>,
 ) -> Result<Reply, LineRefusal>
     requires asked { QuestionCanBeAsked (question_of question.now) }
-    requires has_layout { NeedsLater (At number (question_of question.now)) store.old → ⊥ }
+    requires has_all { LacksAny (At number (question_of question.now)) store.old → ⊥ }
     ensures { IsCarriedOut result D.view
         (At number (question_of question.now)) store.old store.new }
 {

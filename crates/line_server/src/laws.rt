@@ -6,7 +6,7 @@ ghost use Rattle.line_server.specs.Sources.{source_view};
 ghost use Rattle.line_server.specs.Laws.{OkIsImported, RefusedIsNotImported, ImportedIsOk};
 ghost use Rattle.line_server.specs.Laws.{RunNeedsNoSource};
 ghost use Rattle.line_server.specs.Laws.{CheckForetells, DamageHoldsBack, HonestMeetsNoDamage};
-ghost use Rattle.line_server.specs.Laws.{OnlyMembersNeedLater};
+ghost use Rattle.line_server.specs.Laws.{OnlyMembersNeedLater, OnlyWordsAreNotKept};
 ghost use Rattle.line_server.specs.Laws.{ReadingHasNoChange, ReadingWritesNothing};
 ghost use Rattle.line_server.specs.Laws.{RunKeepsPin, PinnedSeesItsImports, PinnedSeesItsReceipts};
 ghost use Rattle.line_server.specs.Laws.{PinnedRunsAreUndisturbed, PinnedReceiptsAreUndisturbed};
@@ -76,6 +76,12 @@ pub fn reading_has_no_change<D: Disk>()
 pub fn only_members_need_later<D: Disk>()
     // promise: members_need_layout_3
     ensures { OnlyMembersNeedLater D D.view }
+{}
+
+/// Exactly the questions for words are answered 16 by a store that leaves words out.
+pub fn only_words_are_not_kept<D: Disk>()
+    // promise: a_refusal_names_its_cause
+    ensures { OnlyWordsAreNotKept D D.view }
 {}
 
 /// An import that was answered OK is the one that its turn imported.

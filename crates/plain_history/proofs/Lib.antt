@@ -3,3 +3,4 @@ pub mod Listed
 pub mod Accepting
 pub mod LatestDays
 pub mod Looking
+pub mod Worded

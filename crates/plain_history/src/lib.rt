@@ -14,6 +14,7 @@ mod membership;
 mod relationships;
 mod releases;
 mod snapshots;
+mod words;
 
 pub use audit::{dates, delta, replaces, timeline};
 pub use descriptions::{search_terms, terms};
@@ -25,3 +26,4 @@ pub use membership::{called, members, values};
 pub use relationships::sources;
 pub use releases::{accepts, after_release, import_receipt, receipt, rows_at};
 pub use snapshots::{get, page, snapshot, versions};
+pub use words::words_found;

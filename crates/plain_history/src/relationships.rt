@@ -77,7 +77,7 @@ fn all_sources(
 }
 
 /// The identifier as a number, if there is one.
-fn number_of(id: Option<Sctid>) -> Option<u64>
+pub(crate) fn number_of(id: Option<Sctid>) -> Option<u64>
     ensures { result ≡ id }
 {
     match id {

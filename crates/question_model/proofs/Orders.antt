@@ -11,10 +11,16 @@ use Rattle.history_model.proofs.Audits.{delta_ascends, timeline_ascends, replace
 use Rattle.history_model.proofs.Membership.{members_ascend, values_ascend, called_ascend}
 use Rattle.history_model.proofs.Relationships.{sources_ascend}
 use Rattle.history_model.proofs.Exports.{rows_of_kind_ascend}
+use Rattle.history_model.proofs.InOrder.{IsAscending-in_order}
+use Rattle.history_model.proofs.Filtered.{IsAscending-take, IsAscending-drop}
+use Rattle.history_model.specs.Queries.{snapshot}
+use Rattle.std.specs.List.{filter}
+use Rattle.std.specs.Cmp.{IsTotalOrder, nat_cmp_total, on_total, then_total}
+use Rattle.word_model.specs.Words.{has_words, words, shortest_cmp, term_length, words_found, some_words_found}
 use Rattle.history_model.proofs.Hierarchy.{one_list_of_descendants, one_list_of_ancestors}
 use Rattle.history_model.proofs.Ways.{each_has_descendants, each_has_ancestors}
 use Rattle.history_model.specs.Queries.{get}
-use Rattle.question_model.specs.Questions.{Get, History, Terms, Search, Replaced, Replaces, About, Timeline, Page, Delta, Members, Values, Called, AllRows}
+use Rattle.question_model.specs.Questions.{Get, History, Terms, Search, Replaced, Replaces, About, Timeline, Page, Delta, Members, Values, Called, AllRows, Words}
 use Rattle.question_model.specs.Questions.{IdQuestion, Children, Ancestors, Descendants, Sources}
 use Rattle.question_model.specs.Wanted.{rows_for, AreIdsFor}
 use Rattle.question_model.specs.Laws.{RowsStay, IdsStay, RowsAscend, IdsAscend, OneListOfIds}
@@ -31,11 +37,22 @@ one_ascends : (row : Option RowValue) → IsAscending by_id (option_to_list row)
 one_ascends None = tt
 one_ascends (Some row) = (tt, tt)
 
+shortest_total : IsTotalOrder shortest_cmp
+shortest_total = then_total (on_total (λ row. term_length row.body) nat_cmp_total) (on_total (λ row. row.id) nat_cmp_total)
+
+words_ascend : (date : ℕ) (wanted_type : Option ℕ) (text : List ℕ) (offset limit : ℕ) (rows : List RowValue) → IsAscending shortest_cmp (some_words_found date wanted_type text offset limit rows)
+unfolding some_words_found words_found
+words_ascend date wanted_type text offset limit rows =
+    let all = filter (has_words wanted_type (words text)) (snapshot rows date) in
+    let up = IsAscending-in_order shortest_total all in
+    IsAscending-take shortest_cmp limit _ (IsAscending-drop shortest_cmp offset _ up)
+
 pub rows_ascend : RowsAscend
 rows_ascend (Get kind id date) rows up = one_ascends (get kind id date rows)
 rows_ascend (History kind id) rows up = versions_ascend rows up kind id
 rows_ascend (Terms prefix date limit) rows up = terms_ascend rows up prefix date limit
 rows_ascend (Search prefix date after limit) rows up = search_ascends prefix date after limit rows up
+rows_ascend (Words date wanted_type offset limit text) rows up = words_ascend date wanted_type text offset limit rows
 rows_ascend (Replaced id date) rows up = replacements_ascend rows id date
 rows_ascend (Replaces id date) rows up = replaces_ascend id date rows
 rows_ascend (About kind id date) rows up = about_ascends kind id date rows up

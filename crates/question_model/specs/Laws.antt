@@ -1,6 +1,6 @@
 -- Laws of every question. `rows` are the rows that a pin shows.
-use Rattle.std.specs.Prelude.{Option, Some, None, ◌≡◌, ◌↔◌, ℕ, ◌<◌, ◌≤◌}
-use Rattle.std.specs.Prelude.{List, [], ◌∷◌, ◌++◌, length}
+use Rattle.std.specs.Prelude.{Option, Some, None, ◌≡◌, ◌↔◌, ℕ, ◌<◌, ◌≤◌, ◌+◌}
+use Rattle.std.specs.Prelude.{List, [], ◌∷◌, ◌++◌, length, drop}
 use Rattle.std.specs.List.{filter}
 use Rattle.std.specs.Ordering.{nat_cmp}
 use Rattle.rf2_values.specs.declared.row.Kind.TheVariants.{Description}
@@ -13,9 +13,10 @@ use Rattle.history_model.specs.Laws.{by_id, by_time, last_id}
 use Rattle.history_model.specs.Audit.{by_version}
 use Rattle.history_model.specs.Membership.{last_component}
 use Rattle.history_model.specs.Exports.{all_of_kind, last_key}
+use Rattle.word_model.specs.Words.{shortest_cmp, words_found}
 use Rattle.question_model.specs.Questions.{RowQuestion, Get, History as AskHistory, Terms, Search, Replaced}
 use Rattle.question_model.specs.Questions.{Replaces, About, Timeline, Page, Delta, Members, Values, Called}
-use Rattle.question_model.specs.Questions.{AllRows}
+use Rattle.question_model.specs.Questions.{AllRows, Words}
 use Rattle.question_model.specs.Questions.{IdQuestion}
 use Rattle.question_model.specs.Wanted.{rows_for, AreIdsFor}
 
@@ -40,6 +41,7 @@ IdsStay = (h : History) (release : List RowValue) (pin : ℕ) (question : IdQues
 -- an order of its own; of what a concept is called, the descriptions
 abbrev pub AscendFor : RowQuestion → List RowValue → Type 0
 AscendFor (AskHistory kind id) found = IsAscending by_time found
+AscendFor (Words date wanted_type offset limit text) found = IsAscending shortest_cmp found
 AscendFor (Replaced id date) found = IsAscending replacement_cmp found
 AscendFor (Replaces id date) found = IsAscending replaced_cmp found
 AscendFor (Timeline kind id) found = IsAscending by_version found
@@ -75,6 +77,7 @@ limit_of (Delta kind from date after limit) = Some limit
 limit_of (Members refset date after limit) = Some limit
 limit_of (Values refset date after limit) = Some limit
 limit_of (AllRows kind after limit) = Some limit
+limit_of (Words date wanted_type offset limit text) = Some limit
 limit_of _ = None
 
 -- all rows for such a question, from where it begins on
@@ -85,10 +88,12 @@ all_for (Delta kind from date after limit) rows = changed_above kind from date a
 all_for (Members refset date after limit) rows = members_above refset date after rows
 all_for (Values refset date after limit) rows = values_above refset date after rows
 all_for (AllRows kind after limit) rows = all_of_kind kind after rows
+all_for (Words date wanted_type offset limit text) rows =
+    drop offset (words_found date wanted_type text rows)
 all_for question rows = rows_for question rows
 
 -- the question that goes on after the last row of a page: values after its component, all rows of a
--- kind after its key, and the others after its id
+-- kind after its key, descriptions with words after as many more, and the others after its id
 abbrev pub after_page : RowQuestion → List RowValue → RowQuestion
 after_page (Search prefix date after limit) found = Search prefix date (last_id after found) limit
 after_page (Page kind date after limit) found = Page kind date (last_id after found) limit
@@ -99,6 +104,8 @@ after_page (Members refset date after limit) found =
 after_page (Values refset date after limit) found =
     Values refset date (last_component after found) limit
 after_page (AllRows kind after limit) found = AllRows kind (last_key after found) limit
+after_page (Words date wanted_type offset limit text) found =
+    Words date wanted_type (offset + length found) limit text
 after_page question found = question
 
 -- each is the answer from after the last row of the one before, and the answer after the last one is

@@ -4,6 +4,7 @@ pub use Rattle.history_model.specs.InOrder
 pub use Rattle.history_model.specs.History
 pub use Rattle.history_model.specs.Relationships
 pub use Rattle.history_model.specs.Exports
+pub use Rattle.word_model.specs.Words
 pub mod Questions
 pub mod Wanted
 pub mod Laws

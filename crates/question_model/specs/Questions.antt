@@ -15,6 +15,7 @@ pub data RowQuestion : Type 0 where
   History : (kind : Kind) (id : ℕ) → RowQuestion
   Terms : (prefix : List ℕ) (date limit : ℕ) → RowQuestion
   Search : (prefix : List ℕ) (date : ℕ) (after : Option ℕ) (limit : ℕ) → RowQuestion
+  Words : (date : ℕ) (wanted_type : Option ℕ) (offset limit : ℕ) (text : List ℕ) → RowQuestion
   Replaced : (id date : ℕ) → RowQuestion
   Replaces : (id date : ℕ) → RowQuestion
   About : (kind : Kind) (id date : ℕ) → RowQuestion
@@ -51,6 +52,8 @@ row_question_of (rows.Page kind date after limit) = Page kind date after limit
 row_question_of (rows.Delta kind from date after limit) = Delta kind from date after limit
 row_question_of (rows.Terms prefix date limit) = Terms prefix.now date limit
 row_question_of (rows.Search prefix date after limit) = Search prefix.now date after limit
+row_question_of (rows.Words date wanted_type offset limit text) =
+    Words date wanted_type offset limit text.now
 row_question_of (rows.About kind id date) = About kind id date
 row_question_of (rows.Timeline kind id) = Timeline kind id
 row_question_of (rows.Replaced id date) = Replaced id date

@@ -7,9 +7,10 @@ use Rattle.history_model.specs.Queries.{children}
 use Rattle.history_model.specs.Hierarchy.{AreAncestors, AreDescendants}
 use Rattle.history_model.specs.Relationships.{sources}
 use Rattle.history_model.specs.Exports.{rows_of_kind}
+use Rattle.word_model.specs.Words.{some_words_found}
 use Rattle.question_model.specs.Questions.{RowQuestion, Get, History, Terms, Search, Replaced, Replaces}
 use Rattle.question_model.specs.Questions.{About, Timeline, Page, Delta, Members, Values, Called}
-use Rattle.question_model.specs.Questions.{AllRows}
+use Rattle.question_model.specs.Questions.{AllRows, Words}
 use Rattle.question_model.specs.Questions.{IdQuestion, Children, Ancestors, Descendants, Sources}
 
 -- the rows that a question asks for
@@ -18,6 +19,8 @@ rows_for (Get kind id date) rows = option_to_list (get kind id date rows)
 rows_for (History kind id) rows = versions kind id rows
 rows_for (Terms prefix date limit) rows = terms prefix date limit rows
 rows_for (Search prefix date after limit) rows = search_terms prefix date after limit rows
+rows_for (Words date wanted_type offset limit text) rows =
+    some_words_found date wanted_type text offset limit rows
 rows_for (Replaced id date) rows = replacements id date rows
 rows_for (Replaces id date) rows = replaces id date rows
 rows_for (About kind id date) rows = about kind id date rows

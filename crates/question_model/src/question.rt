@@ -48,6 +48,15 @@ pub enum RowQuestion<'a> {
         after: Option<u128>,
         limit: u32,
     },
+    /// Active descriptions, of a type, if one is given, for which each word of the text begins a word
+    /// of the term: the shortest terms first, then by id, `limit` of them after the first `offset`.
+    Words {
+        date: EffectiveTime,
+        wanted_type: Option<Sctid>,
+        offset: u32,
+        limit: u32,
+        text: &'a str,
+    },
     /// The active rows of a kind that are about a component, ascending by id: the descriptions of a
     /// concept, the relationships whose source it is, the associations that refer to it.
     About {

@@ -16,17 +16,25 @@ use Rattle.as_of_index.proofs.Pushing.{posted_push}
 use Rattle.as_of_index.proofs.Storing.{places_of_lists}
 use Rattle.term_prefix.specs.Terms.{TermAt}
 use Rattle.term_prefix.specs.Pushed.{posted_term}
+use Rattle.term_words.specs.Posted.{posted_words}
 use Rattle.links.specs.Edges.{Edges, no_edges, edges_of, joined_edges, posted_edges}
 use Rattle.links.proofs.Posted.{pushed_one_by_one}
-use Rattle.segment_index.specs.Indexed.{terms_of, links_of, IsBuilt}
+use Rattle.segment_index.specs.declared.words.Words.{Words}
+use Rattle.segment_index.specs.declared.words.Words.TheVariants as words
+use Rattle.segment_index.specs.Indexed.{SegmentRows, terms_of, words_of, links_of, IsBuilt}
+
+-- some rows, whose words are kept or left out
+abbrev pub with_words : Words → List StampedRow → SegmentRows
+with_words keeps rows = record { rows = rows; words = keeps }
 
 -- ---- no rows
 
-pub none_built : (rows : List StampedRow) (places : List RowPlace) (terms : List TermAt) (links : Edges) → rows ≡ [] → places ≡ [] → terms ≡ [] → links ≡ no_edges → IsBuilt rows places terms links 0
-none_built rows places terms links none no_places no_terms no_links = record {
+pub none_built : (keeps : Words) (rows : List StampedRow) (places : List RowPlace) (terms : List TermAt) (links : Edges) (posted : List TermAt) → rows ≡ [] → places ≡ [] → terms ≡ [] → links ≡ no_edges → posted ≡ [] → IsBuilt (with_words keeps rows) places terms links posted 0
+none_built keeps rows places terms links posted none no_places no_terms no_links no_words = record {
   places_are = no_places ∙ sym (ap places_of none);
   terms_are = no_terms ∙ sym (ap terms_of none);
   links_are = no_links ∙ sym (ap links_of none);
+  words_are = λ is_kept. no_words ∙ sym (ap words_of none);
   bytes_are = sym (ap (λ (l : List StampedRow). length (segment_of l)) none ∙ ap length no_rows_plain);
 }
 
@@ -37,9 +45,9 @@ placed_push rows s at place here is =
     let same : 0 + length (segment_of rows) ≡ at = omega (arith, here) in
     with_places_push 0 rows s ∙ ap (λ n. with_places 0 rows ++ (s, row_place s n) ∷ []) same ∙ sym (ap (λ (p : RowPlace). with_places 0 rows ++ (s, p) ∷ []) is)
 
-pub built_push : (rows next : List StampedRow) (places more : List RowPlace) (terms terms' : List TermAt) (links links' : Edges) (bytes bytes' number : ℕ) (row : StampedRow) (place : RowPlace) → IsBuilt rows places terms links bytes → place ≡ row_place row bytes → number ≡ length rows
-    → next ≡ rows ++ row ∷ [] → more ≡ places ++ place ∷ [] → terms' ≡ terms ++ posted_term row.row number → links' ≡ joined_edges links (edges_of row.row number) → bytes' ≡ bytes + place.bytes → IsBuilt next more terms' links' bytes'
-built_push rows next places more terms terms' links links' bytes bytes' number row place is place_is number_is next_is more_is terms_is links_is bytes_is =
+pub built_push : (keeps : Words) (rows next : List StampedRow) (places more : List RowPlace) (terms terms' : List TermAt) (links links' : Edges) (posted posted' : List TermAt) (bytes bytes' number : ℕ) (row : StampedRow) (place : RowPlace) → IsBuilt (with_words keeps rows) places terms links posted bytes → place ≡ row_place row bytes → number ≡ length rows
+    → next ≡ rows ++ row ∷ [] → more ≡ places ++ place ∷ [] → terms' ≡ terms ++ posted_term row.row number → links' ≡ joined_edges links (edges_of row.row number) → (keeps ≡ words.Kept → posted' ≡ posted ++ posted_words row.row number) → bytes' ≡ bytes + place.bytes → IsBuilt (with_words keeps next) more terms' links' posted' bytes'
+built_push keeps rows next places more terms terms' links links' posted posted' bytes bytes' number row place is place_is number_is next_is more_is terms_is links_is words_is bytes_is =
     let with : with_places 0 next ≡ with_places 0 rows ++ (row, place) ∷ [] = ap (with_places 0) next_is ∙ placed_push rows row bytes place is.bytes_are place_is in
     let len = ap (λ (p : RowPlace). p.bytes) place_is ∙ place_bytes row bytes in
     let whole = ap (λ (l : List StampedRow). length (segment_of l)) next_is ∙ ap length (push_plain rows row) ∙ length-append (segment_of rows) (record_of row) in
@@ -48,6 +56,7 @@ built_push rows next places more terms terms' links links' bytes bytes' number r
       places_are = more_is ∙ ap (λ (p : List RowPlace). p ++ place ∷ []) is.places_are ∙ sym (ap (map (λ (x : StampedRow × RowPlace). x.1)) with ∙ map-append (λ (x : StampedRow × RowPlace). x.1) (with_places 0 rows) ((row, place) ∷ []));
       terms_are = terms_is ∙ ap (λ (t : List TermAt). t ++ posted_term row.row number) is.terms_are ∙ sym (ap (posted_all posted_term 0) next_is ∙ posted_push posted_term 0 rows row ∙ ap (λ n. posted_all posted_term 0 rows ++ posted_term row.row n) last);
       links_are = links_is ∙ ap (λ (e : Edges). joined_edges e (edges_of row.row number)) is.links_are ∙ sym (ap posted_edges next_is ∙ pushed_one_by_one rows row ∙ ap (λ n. joined_edges (posted_edges rows) (edges_of row.row n)) (sym number_is));
+      words_are = λ is_kept. words_is is_kept ∙ ap (λ (t : List TermAt). t ++ posted_words row.row number) (is.words_are is_kept) ∙ sym (ap (posted_all posted_words 0) next_is ∙ posted_push posted_words 0 rows row ∙ ap (λ n. posted_all posted_words 0 rows ++ posted_words row.row n) last);
       bytes_are = omega (arith, len, whole, bytes_is, is.bytes_are);
     }
 
@@ -61,8 +70,9 @@ place_taken_away rows places more left place number is number_is more_is left_is
 pub row_taken_away : (rows more left : List StampedRow) (row : StampedRow) (number : ℕ) → number ≡ length rows → more ≡ rows ++ row ∷ [] → left ≡ take number more → left ≡ rows
 row_taken_away rows more left row number number_is more_is left_is = left_is ∙ (λ i. take (number_is i) (more_is i)) ∙ take-append_seam rows (row ∷ [])
 
-pub built_same : (rows same : List StampedRow) (places same_places : List RowPlace) (terms same_terms : List TermAt) (links same_links : Edges) (bytes : ℕ) → IsBuilt rows places terms links bytes → same ≡ rows → same_places ≡ places → same_terms ≡ terms → same_links ≡ links → IsBuilt same same_places same_terms same_links bytes
-built_same rows same places same_places terms same_terms links same_links bytes is r p t l = rw (r, p, t, l) is
+pub built_same : (keeps : Words) (rows same : List StampedRow) (places same_places : List RowPlace) (terms same_terms : List TermAt) (links same_links : Edges) (posted same_posted : List TermAt) (bytes : ℕ) → IsBuilt (with_words keeps rows) places terms links posted bytes
+    → same ≡ rows → same_places ≡ places → same_terms ≡ terms → same_links ≡ links → same_posted ≡ posted → IsBuilt (with_words keeps same) same_places same_terms same_links same_posted bytes
+built_same keeps rows same places same_places terms same_terms links same_links posted same_posted bytes is r p t l w = rw (r, p, t, l, w) is
 
 -- ---- the first rows
 

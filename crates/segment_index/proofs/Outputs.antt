@@ -1,7 +1,7 @@
 -- The rows of two lists of which some are taken.
 use Rattle.std.specs.Prelude.{min, Some, None, Option, IsSome, IfSome, slice_get, option_map}
 use Rattle.std.specs.List.{AllZip, sum_by}
-use Rattle.std.proofs.Common.{◌≡◌, ℕ, Bool, true, ◌+◌, ◌-◌, ◌^◌, ◌<◌, ◌≤◌, List, [], ◌∷◌, ◌++◌, length, take, drop, get_or, refl, sym, ap, subst, ◌∙◌, arith, length-append}
+use Rattle.std.proofs.Common.{◌≡◌, ℕ, ◌+◌, ◌-◌, ◌^◌, ◌<◌, ◌≤◌, List, [], ◌∷◌, ◌++◌, length, take, drop, get_or, refl, sym, ap, subst, ◌∙◌, arith, length-append}
 use Rattle.std.proofs.lemmas.List.{take_all, take_min, length-take, drop-drop, take-take, nil_from_length, drop_min}
 use Rattle.std.proofs.lemmas.List.Sums.{sum_by-cons}
 use Rattle.std.proofs.lemmas.Option.{slice_get-map, slice_get_read}
@@ -24,7 +24,8 @@ use Rattle.segment_index.specs.declared.index_merge.MergeMark.{MergeMark}
 use Rattle.segment_index.specs.Output.{OutputRows, IsMarkOf, IsOutput, HasPostings, left_count}
 use Rattle.segment_index.specs.Private.{moved_from}
 use Rattle.segment_index.specs.Indexed.{IsIndexed}
-use Rattle.segment_index.proofs.Built.{first_places, segment_within}
+use Rattle.segment_index.specs.declared.words.Words.{Words}
+use Rattle.segment_index.proofs.Built.{with_words, first_places, segment_within}
 use Rattle.segment_index.proofs.Moving.{places_append, places_from, moved_places, moved_bytes, moved_length}
 
 -- ---- the union of two lists
@@ -69,19 +70,19 @@ union_none a b none =
     sym (ap (λ (l : List StampedRow). union l b) (nil_from_length a (omega (arith, none))) ∙ ap (λ (l : List StampedRow). union [] l) (nil_from_length b (omega (arith, none))))
 
 -- what is posted, if all is: where no row is left all is posted
-abbrev pub AreComplete : List StampedRow → List StampedRow → MergeProgress → Option OutputPostings → Type 0
-AreComplete a b progress postings = IfSome postings (HasPostings (union a b)) × (count_left progress ≡ 0 → IsSome postings)
+abbrev pub AreComplete : Words → List StampedRow → List StampedRow → MergeProgress → Option OutputPostings → Type 0
+AreComplete keeps a b progress postings = IfSome postings (HasPostings keeps (union a b)) × (count_left progress ≡ 0 → IsSome postings)
 
-pub none_complete : (a b : List StampedRow) (progress : MergeProgress) (p : OutputPostings) → IsNew progress (length a) (length b) → count_left progress ≡ 0 → HasPostings [] p → AreComplete a b progress (Some p)
-none_complete a b progress p new none is =
-    (subst (λ (l : List StampedRow). HasPostings l p) (union_none a b (omega (arith, none, new.a_len_is, new.b_len_is, new.a_place_is, new.b_place_is))) is, λ done. refl)
+pub none_complete : (keeps : Words) (a b : List StampedRow) (progress : MergeProgress) (p : OutputPostings) → IsNew progress (length a) (length b) → count_left progress ≡ 0 → HasPostings keeps [] p → AreComplete keeps a b progress (Some p)
+none_complete keeps a b progress p new none is =
+    (subst (λ (l : List StampedRow). HasPostings keeps l p) (union_none a b (omega (arith, none, new.a_len_is, new.b_len_is, new.a_place_is, new.b_place_is))) is, λ done. refl)
 
-pub some_left : (a b : List StampedRow) (progress : MergeProgress) → (count_left progress ≡ 0 → ⊥) → AreComplete a b progress None
-some_left a b progress some = (tt, λ done. absurd (some done))
+pub some_left : (keeps : Words) (a b : List StampedRow) (progress : MergeProgress) → (count_left progress ≡ 0 → ⊥) → AreComplete keeps a b progress None
+some_left keeps a b progress some = (tt, λ done. absurd (some done))
 
-pub new_output : (a b : List StampedRow) (mark : MergeMark) (places : List RowPlace) (postings : Option OutputPostings) → AreLists (a ∷ b ∷ []) → length (segment_of a) + length (segment_of b) < 2 ^ 32 → IsNew mark.progress (length a) (length b) → mark.rows ≡ 0 → mark.bytes ≡ 0 → places ≡ []
-    → AreComplete a b mark.progress postings → IsOutput a b mark places postings
-new_output a b mark places postings are short new rows bytes none complete = record {
+pub new_output : (keeps : Words) (a b : List StampedRow) (mark : MergeMark) (places : List RowPlace) (postings : Option OutputPostings) → AreLists (a ∷ b ∷ []) → length (segment_of a) + length (segment_of b) < 2 ^ 32 → IsNew mark.progress (length a) (length b) → mark.rows ≡ 0 → mark.bytes ≡ 0 → places ≡ []
+    → AreComplete keeps a b mark.progress postings → IsOutput a b keeps mark places postings
+new_output keeps a b mark places postings are short new rows bytes none complete = record {
   lists = are;
   short = short;
   mark_is = record {
@@ -102,33 +103,33 @@ new_output a b mark places postings are short new rows bytes none complete = rec
 pub left_agrees : (m : OutputRows) (mark : MergeMark) → mark.progress.a_place ≤ mark.progress.a_len → mark.progress.b_place ≤ mark.progress.b_len → IsMarkOf m mark → count_left mark.progress ≡ left_count m
 left_agrees m mark a_within b_within is = omega (arith, a_within, b_within, is.lengths.0, is.lengths.1, is.places_are)
 
-bytes_then : (a b : List StampedRow) (old : MergeMark) (taken : List Taken) (n : ℕ) {places : List RowPlace} {was : Option OutputPostings} → IsOutput a b old places was → AllZip (StandsTaken a b) taken (take n (drop old.rows (union a b)))
+bytes_then : (keeps : Words) (a b : List StampedRow) (old : MergeMark) (taken : List Taken) (n : ℕ) {places : List RowPlace} {was : Option OutputPostings} → IsOutput a b keeps old places was → AllZip (StandsTaken a b) taken (take n (drop old.rows (union a b)))
     → old.bytes + sum_by (λ (t : Taken). t.place.bytes) taken ≡ length (segment_of (take old.rows (union a b) ++ take n (drop old.rows (union a b))))
-bytes_then a b old taken n is standing =
+bytes_then keeps a b old taken n is standing =
     omega (arith, is.mark_is.bytes_are, moved_bytes a b taken (take n (drop old.rows (union a b))) standing, segment_length_both (take old.rows (union a b)) (take n (drop old.rows (union a b))))
 
 -- the bytes of the rows taken and of those to come are at most those of both lists
-pub step_fits : (a b : List StampedRow) (old : MergeMark) (taken : List Taken) (n : ℕ) (places : List RowPlace) (was : Option OutputPostings) → IsOutput a b old places was → AllZip (StandsTaken a b) taken (take n (rows_left old.progress a b))
+pub step_fits : (keeps : Words) (a b : List StampedRow) (old : MergeMark) (taken : List Taken) (n : ℕ) (places : List RowPlace) (was : Option OutputPostings) → IsOutput a b keeps old places was → AllZip (StandsTaken a b) taken (take n (rows_left old.progress a b))
     → old.bytes + sum_by (λ (t : Taken). t.place.bytes) taken < 2 ^ 32
-step_fits a b old taken n places was is stand =
+step_fits keeps a b old taken n places was is stand =
     let u = union a b in
     let standing = subst (λ (l : List StampedRow). AllZip (StandsTaken a b) taken (take n l)) is.mark_is.left_are stand in
-    let one = bytes_then a b old taken n is standing in
+    let one = bytes_then keeps a b old taken n is standing in
     let same = ap (λ (l : List StampedRow). length (segment_of l)) (sym (take_sum old.rows n u)) in
     omega (arith, one, same, segment_within (old.rows + n) u, both_bytes a b is.lists, is.short)
 
 -- up to n rows more are taken
-pub step_output : (a b : List StampedRow) (old next : MergeMark) (places more : List RowPlace) (taken : List Taken) (n : ℕ) (was postings : Option OutputPostings) → IsOutput a b old places was
+pub step_output : (keeps : Words) (a b : List StampedRow) (old next : MergeMark) (places more : List RowPlace) (taken : List Taken) (n : ℕ) (was postings : Option OutputPostings) → IsOutput a b keeps old places was
     → old.progress.a_place ≤ old.progress.a_len → old.progress.b_place ≤ old.progress.b_len → next.progress.a_place ≤ next.progress.a_len → next.progress.b_place ≤ next.progress.b_len
     → IsOf next.progress a b → length taken ≡ min n (count_left old.progress) → count_left next.progress ≡ count_left old.progress - n
     → AllZip (StandsTaken a b) taken (take n (rows_left old.progress a b)) → rows_left next.progress a b ≡ drop n (rows_left old.progress a b)
     → more ≡ places ++ moved_from old.bytes taken → next.rows ≡ length more → next.bytes ≡ old.bytes + sum_by (λ (t : Taken). t.place.bytes) taken
-    → AreComplete a b next.progress postings → IsOutput a b next more postings
-step_output a b old next places more taken n was postings is a1 b1 a2 b2 of count left stand others more_is rows_is bytes_is complete =
+    → AreComplete keeps a b next.progress postings → IsOutput a b keeps next more postings
+step_output keeps a b old next places more taken n was postings is a1 b1 a2 b2 of count left stand others more_is rows_is bytes_is complete =
     let u = union a b in
     let k = old.rows in
     let mark = is.mark_is in
-    let before = left_agrees (record { a = a; b = b; taken = k }) old a1 b1 mark in
+    let before = left_agrees (record { a = a; b = b; taken = k; words = keeps }) old a1 b1 mark in
     let whole = both_long a b is.lists in
     let standing = subst (λ (l : List StampedRow). AllZip (StandsTaken a b) taken (take n l)) mark.left_are stand in
     let added = ap length more_is ∙ length-append places (moved_from old.bytes taken) in
@@ -153,7 +154,7 @@ step_output a b old next places more taken n was postings is a1 b1 a2 b2 of coun
         places_are = omega (arith, of.0, of.1, mark.lengths.0, mark.lengths.1, mark.places_are, rows, count, left, a1, b1, a2, b2);
         left_are = left_is;
         rows_are = refl;
-        bytes_are = bytes_is ∙ bytes_then a b old taken n is standing ∙ sym (ap (λ (l : List StampedRow). length (segment_of l)) taken_are);
+        bytes_are = bytes_is ∙ bytes_then keeps a b old taken n is standing ∙ sym (ap (λ (l : List StampedRow). length (segment_of l)) taken_are);
       };
       places_are = places_are;
       posted = complete.0;
@@ -161,9 +162,9 @@ step_output a b old next places more taken n was postings is a1 b1 a2 b2 of coun
     }
 
 -- rows are given back
-pub cut_output : (a b : List StampedRow) (old mark : MergeMark) (places less : List RowPlace) (postings : Option OutputPostings) → IsOutput a b old places postings → old.progress.a_place ≤ old.progress.a_len → old.progress.b_place ≤ old.progress.b_len → mark.progress.a_place ≤ mark.progress.a_len
-    → mark.progress.b_place ≤ mark.progress.b_len → mark.rows ≤ old.rows → IsMarkOf (record { a = a; b = b; taken = mark.rows }) mark → less ≡ take mark.rows places → IsOutput a b mark less postings
-cut_output a b old mark places less postings is a1 b1 a2 b2 fewer at less_is =
+pub cut_output : (keeps : Words) (a b : List StampedRow) (old mark : MergeMark) (places less : List RowPlace) (postings : Option OutputPostings) → IsOutput a b keeps old places postings → old.progress.a_place ≤ old.progress.a_len → old.progress.b_place ≤ old.progress.b_len → mark.progress.a_place ≤ mark.progress.a_len
+    → mark.progress.b_place ≤ mark.progress.b_len → mark.rows ≤ old.rows → IsMarkOf (record { a = a; b = b; taken = mark.rows; words = keeps }) mark → less ≡ take mark.rows places → IsOutput a b keeps mark less postings
+cut_output keeps a b old mark places less postings is a1 b1 a2 b2 fewer at less_is =
     let u = union a b in
     record {
       lists = is.lists;
@@ -175,45 +176,49 @@ cut_output a b old mark places less postings is a1 b1 a2 b2 fewer at less_is =
     }
 
 -- all rows are taken
-pub all_taken : (a b : List StampedRow) (mark : MergeMark) (places : List RowPlace) (postings : Option OutputPostings) → IsOutput a b mark places postings → length a + length b - mark.rows ≡ 0 → places ≡ places_of (union a b)
-all_taken a b mark places postings is none =
+pub all_taken : (keeps : Words) (a b : List StampedRow) (mark : MergeMark) (places : List RowPlace) (postings : Option OutputPostings) → IsOutput a b keeps mark places postings → length a + length b - mark.rows ≡ 0 → places ≡ places_of (union a b)
+all_taken keeps a b mark places postings is none =
     is.places_are ∙ ap places_of (take_all mark.rows (union a b) (omega (arith, none, both_long a b is.lists)))
 
 -- ---- what is posted of the output
 
-pub posted_index : (rows : List StampedRow) (places : List RowPlace) (p : OutputPostings) → places ≡ places_of rows → HasPostings rows p → IsIndexed rows places p.terms p.links
-posted_index rows places p places_are posted = record { places_are = places_are; terms_are = posted.terms_are; links_are = posted.links_are }
+pub posted_index : (keeps : Words) (rows : List StampedRow) (places : List RowPlace) (p : OutputPostings) → places ≡ places_of rows → HasPostings keeps rows p → IsIndexed (with_words keeps rows) places p.terms p.links p.words
+posted_index keeps rows places p places_are posted = record { places_are = places_are; terms_are = posted.terms_are; links_are = posted.links_are; words_are = posted.words_are }
 
-pub if_some : (rows : List StampedRow) (postings : Option OutputPostings) (p : OutputPostings) → postings ≡ Some p → IfSome postings (HasPostings rows) → HasPostings rows p
-if_some rows (Some q) p same posted = let is : q ≡ p = cc in subst (HasPostings rows) is posted
-if_some rows None p same posted = absurd cc
+pub if_some : (keeps : Words) (rows : List StampedRow) (postings : Option OutputPostings) (p : OutputPostings) → postings ≡ Some p → IfSome postings (HasPostings keeps rows) → HasPostings keeps rows p
+if_some keeps rows (Some q) p same posted = let is : q ≡ p = cc in subst (HasPostings keeps rows) is posted
+if_some keeps rows None p same posted = absurd cc
 
 pub list_at : (lists rows : List (List StampedRow)) (i : ℕ) (found list : List StampedRow) → rows ≡ lists → i < length lists → found ≡ get_or rows i found → list ≡ found → slice_get lists i ≡ Some list
 list_at lists rows i found list same within at is =
     let here : slice_get rows i ≡ Some found = slice_get_read rows (length rows) i found refl (omega (arith, within, ap length same)) at in
     ap (λ (l : List (List StampedRow)). slice_get l i) (sym same) ∙ here ∙ sym (ap Some is)
 
--- an answer of a step, where more is posted than before or as much
-pub posted_on : (a b : List StampedRow) (progress : MergeProgress) (was postings : Option OutputPostings) (done : Bool) → AreLists (a ∷ b ∷ []) → IfSome was (HasPostings (union a b)) → (IfSome was (HasPostings (union a b)) → IfSome postings (HasPostings (union a b)))
-    → (count_left progress ≡ 0 → done ≡ true) → (done ≡ true → IsSome postings) → AreComplete a b progress postings
-posted_on a b progress was postings done are had goes none all = (goes had, λ empty. all (none empty))
+-- more is posted than before or as much, of an index that keeps words or not as the output does
+pub goes_on : (keeps listed : Words) (a b : List StampedRow) (was postings : Option OutputPostings) → keeps ≡ listed → (IfSome was (HasPostings listed (union a b)) → IfSome postings (HasPostings listed (union a b))) → IfSome was (HasPostings keeps (union a b)) → IfSome postings (HasPostings keeps (union a b))
+goes_on keeps listed a b was postings same goes had = subst (λ (k : Words). IfSome postings (HasPostings k (union a b))) (sym same) (goes (subst (λ (k : Words). IfSome was (HasPostings k (union a b))) same had))
+
+-- an answer of a step
+pub posted_on : (keeps : Words) (a b : List StampedRow) (progress : MergeProgress) (was postings : Option OutputPostings) → AreLists (a ∷ b ∷ []) → IfSome was (HasPostings keeps (union a b)) → (IfSome was (HasPostings keeps (union a b)) → IfSome postings (HasPostings keeps (union a b)))
+    → (count_left progress ≡ 0 → IsSome postings) → AreComplete keeps a b progress postings
+posted_on keeps a b progress was postings are had goes all = (goes had, all)
 
 -- where the merge was cut short what is posted of the output is as before, or is all
-pub same_output : (a b : List StampedRow) (mark : MergeMark) (places same : List RowPlace) (was postings : Option OutputPostings) → IsOutput a b mark places was → same ≡ places → IfSome postings (HasPostings (union a b)) → (IsSome was → IsSome postings) → IsOutput a b mark same postings
-same_output a b mark places same was postings is places_same posted kept = record {
+pub same_output : (keeps : Words) (a b : List StampedRow) (mark : MergeMark) (places same : List RowPlace) (was postings : Option OutputPostings) → IsOutput a b keeps mark places was → same ≡ places → IfSome postings (HasPostings keeps (union a b)) → (IsSome was → IsSome postings) → IsOutput a b keeps mark same postings
+same_output keeps a b mark places same was postings is places_same posted still = record {
   lists = is.lists;
   short = is.short;
   mark_is = is.mark_is;
   places_are = places_same ∙ is.places_are;
   posted = posted;
-  complete = λ none. kept (is.complete none);
+  complete = λ none. still (is.complete none);
 }
 
 -- the value after a step
-pub more_taken : (a b : List StampedRow) (old next : MergeMark) (places more : List RowPlace) (taken : List Taken) (n : ℕ) (was postings : Option OutputPostings) → IsOutput a b old places was → old.progress.a_place ≤ old.progress.a_len → old.progress.b_place ≤ old.progress.b_len
+pub more_taken : (keeps : Words) (a b : List StampedRow) (old next : MergeMark) (places more : List RowPlace) (taken : List Taken) (n : ℕ) (was postings : Option OutputPostings) → IsOutput a b keeps old places was → old.progress.a_place ≤ old.progress.a_len → old.progress.b_place ≤ old.progress.b_len
     → length taken ≡ min n (count_left old.progress) → more ≡ places ++ moved_from old.bytes taken → next.rows ≡ length more → next.rows ≡ old.rows + min n (length a + length b - old.rows)
-more_taken a b old next places more taken n was postings is a1 b1 count more_is rows_is =
-    let before = left_agrees (record { a = a; b = b; taken = old.rows }) old a1 b1 is.mark_is in
+more_taken keeps a b old next places more taken n was postings is a1 b1 count more_is rows_is =
+    let before = left_agrees (record { a = a; b = b; taken = old.rows; words = keeps }) old a1 b1 is.mark_is in
     let had = ap length is.places_are ∙ as_many_places 0 (take old.rows (union a b)) ∙ length-take old.rows (union a b) in
     omega (arith, rows_is, ap length more_is ∙ length-append places (moved_from old.bytes taken), moved_length old.bytes taken, had, count, before, both_long a b is.lists, is.mark_is.lengths.0, is.mark_is.lengths.1, is.mark_is.places_are, a1, b1)
 

@@ -4,6 +4,7 @@ pub use Rattle.history_model.specs.Lists
 pub use Rattle.segment.specs.Standing
 pub use Rattle.as_of_index.specs.Places
 pub use Rattle.term_prefix.specs.Pushed
+pub use Rattle.term_words.specs.Posted
 pub use Rattle.links.specs.Laws
 pub use Rattle.merge.specs.Merged
 pub use Rattle.as_of_index.specs.Numbers

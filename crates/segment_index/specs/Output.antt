@@ -9,14 +9,17 @@ use Rattle.segment.specs.Standing.{places_of}
 use Rattle.merge.specs.Merged.{IsOf, count_left, rows_left}
 use Rattle.term_prefix.specs.Pushed.{IsPosted}
 use Rattle.links.specs.Laws.{ArePostingsOf}
+use Rattle.segment_index.specs.declared.words.Words.{Words}
+use Rattle.segment_index.specs.Indexed.{HasWords}
 use Rattle.segment_index.specs.declared.output_postings.OutputPostings.{OutputPostings}
 use Rattle.segment_index.specs.declared.index_merge.MergeMark.{MergeMark}
 
--- two lists of rows, and how many rows of their union have been taken
+-- two lists of rows, how many rows of their union have been taken, and whether words are kept
 pub record OutputRows : Type 0 where
   pub a : List StampedRow
   pub b : List StampedRow
   pub taken : ℕ
+  pub words : Words
 
 -- the rows that have been taken, and those that are left
 abbrev pub taken_rows : OutputRows → List StampedRow
@@ -34,9 +37,11 @@ abbrev pub with_more : ℕ → OutputRows → OutputRows
 with_more n m = record m { taken = m.taken + min n (left_count m) }
 
 -- `p` has the postings of these rows, in any order
-pub record HasPostings (rows : List StampedRow) (p : OutputPostings) : Type 0 where
+pub record HasPostings (words : Words) (rows : List StampedRow) (p : OutputPostings)
+    : Type 0 where
   pub terms_are : IsPosted rows p.terms
   pub links_are : ArePostingsOf rows p.links
+  pub words_are : HasWords words rows p.words
 
 -- the mark says how many rows of each list have been taken, and how long their records are
 pub record IsMarkOf (m : OutputRows) (mark : MergeMark) : Type 0 where
@@ -48,11 +53,11 @@ pub record IsMarkOf (m : OutputRows) (mark : MergeMark) : Type 0 where
 
 -- the output's index has the places of the rows taken so far, and once all are taken the postings
 -- of all rows
-pub record IsOutput (a b : List StampedRow) (mark : MergeMark) (places : List RowPlace)
-    (postings : Option OutputPostings) : Type 0 where
+pub record IsOutput (a b : List StampedRow) (words : Words) (mark : MergeMark)
+    (places : List RowPlace) (postings : Option OutputPostings) : Type 0 where
   pub lists : AreLists (a ∷ b ∷ [])
   pub short : length (segment_of a) + length (segment_of b) < 2 ^ 32
-  pub mark_is : IsMarkOf (record { a = a; b = b; taken = mark.rows }) mark
+  pub mark_is : IsMarkOf (record { a = a; b = b; taken = mark.rows; words = words }) mark
   pub places_are : places ≡ places_of (take mark.rows (union a b))
-  pub posted : IfSome postings (HasPostings (union a b))
+  pub posted : IfSome postings (HasPostings words (union a b))
   pub complete : count_left mark.progress ≡ 0 → IsSome postings

@@ -13,7 +13,7 @@ abbrev pub places_at : List (List RowPlace) → PostingsMerge → TwoLists
 places_at places m =
     record { first = slice_index_or places m.i []; second = slice_index_or places m.j [] }
 
--- the terms, and the other postings, of the segment with this number
+-- the terms or words, and the other postings, of the segment with this number
 abbrev pub terms_at : List (List TermAt) → ℕ → List TermAt
 terms_at terms i = slice_index_or terms i []
 
@@ -23,16 +23,18 @@ edges_at links i = slice_index_or links i no_edges
 -- both segments are listed, the known numbers of their rows are right, and so are the postings
 -- merged so far
 pub record IsPostingsMerge (places : List (List RowPlace)) (terms : List (List TermAt))
-    (links : List Edges) (m : PostingsMerge) : Type 0 where
+    (links : List Edges) (words : List (List TermAt)) (m : PostingsMerge) : Type 0 where
   pub first_within : m.i < length places
   pub second_within : m.j < length places
   pub numbers_are : AreKnown (places_at places m) m.numbers
   pub terms_are :
       IsMergeOfTerms (places_at places m) (terms_at terms m.i) (terms_at terms m.j) m.terms
   pub links_are : IsMergeOf (places_at places m) (edges_at links m.i) (edges_at links m.j) m.links
+  pub words_are :
+      IsMergeOfTerms (places_at places m) (terms_at words m.i) (terms_at words m.j) m.words
 
 -- a merge of postings is one of two listed segments
 abbrev pub IsUnderWay : List (List RowPlace) → List (List TermAt) → List Edges
-    → Option PostingsMerge → Type 0
-IsUnderWay places terms links None = Unit {0}
-IsUnderWay places terms links (Some m) = IsPostingsMerge places terms links m
+    → List (List TermAt) → Option PostingsMerge → Type 0
+IsUnderWay places terms links words None = Unit {0}
+IsUnderWay places terms links words (Some m) = IsPostingsMerge places terms links words m

@@ -6,39 +6,61 @@ ghost use Rattle.history_model.specs.History.{stamped_cmp};
 ghost use Rattle.segment.specs.Records.{segment_of};
 ghost use Rattle.term_prefix.specs.Pushed.{posted_term};
 ghost use Rattle.links.specs.Edges.{edges_of, joined_edges};
+ghost use Rattle.segment_index.specs.Private.{words_if};
 
 use crate::sealed::SegmentIndex;
+use crate::words::Words;
 use as_of_index::PlaceListBuilder;
 use history_model::{GhostRows, StampedRow};
 use segment::RowPlace;
 use std::alloc::{AllocError, Global};
 use std::marker::Model;
 
-/// The places and postings of one segment's rows, built row by row.
+/// The places and postings of one segment's rows, built row by row. Its value in clauses are the
+/// rows so far, and whether words are kept.
 #[derive(Drop)]
 pub struct IndexBuilder {
     places: PlaceListBuilder,
     terms: term_prefix::Postings,
     links: links::Postings,
+    posted_words: term_words::Postings,
+    words: Words,
     rows: GhostRows,
     /// The total length of the rows' records, in bytes.
     bytes: u32,
 }
 
 impl Model for IndexBuilder {
-    ghost use Rattle.std.specs.Prelude.{List};
-    ghost use Rattle.history_model.specs.declared.stamped.StampedRow.{StampedRow};
-    ghost use Rattle.segment_index.specs.Indexed.{IsBuilt};
+    ghost use Rattle.segment_index.specs.Indexed.{SegmentRows, IsBuilt};
 
-    ghost Value = { List StampedRow };
+    ghost Value = { SegmentRows };
 
-    ghost view = { λ a. a.rows };
+    ghost view = { λ a. record { rows = a.rows; words = a.words } };
 
-    ghost invariant = { λ a. IsBuilt a.rows a.places a.terms a.links a.bytes };
+    ghost invariant = { λ a. IsBuilt (record { rows = a.rows; words = a.words })
+        a.places a.terms a.links a.posted_words a.bytes };
 }
 
-/// Adds the postings of the row with this number. An `Err` changes nothing.
-fn post(
+/// Adds the postings by words of the row with this number, if words are kept. An `Err` changes
+/// nothing.
+fn post_words(
+    posted: &mut term_words::Postings,
+    words: Words,
+    row: &StampedRow,
+    number: u32,
+) -> Result<(), AllocError>
+    ensures ok { OnOk result
+        (posted.new ≡ posted.old ++ words_if words row.now.row number) }
+    ensures err { OnErr result (posted.new ≡ posted.old) }
+{
+    match words {
+        Words::Kept => posted.push(row, number),
+        Words::LeftOut => Ok(()),
+    }
+}
+
+/// Adds the postings of the row with this number, but those by words. An `Err` changes nothing.
+fn post_others(
     terms: &mut term_prefix::Postings,
     links: &mut links::Postings,
     row: &StampedRow,
@@ -59,10 +81,41 @@ fn post(
     }
 }
 
+/// Adds the postings of the row with this number. An `Err` changes nothing.
+fn post(
+    terms: &mut term_prefix::Postings,
+    links: &mut links::Postings,
+    posted: &mut term_words::Postings,
+    words: Words,
+    row: &StampedRow,
+    number: u32,
+) -> Result<(), AllocError>
+    ensures ok { OnOk result ((terms.new ≡ terms.old ++ posted_term row.now.row number)
+        × (links.new ≡ joined_edges links.old (edges_of row.now.row number))) }
+    ensures words { OnOk result
+        (posted.new ≡ posted.old ++ words_if words row.now.row number) }
+    ensures err { OnErr result ((terms.new ≡ terms.old) × (links.new ≡ links.old)
+        × (posted.new ≡ posted.old)) }
+{
+    let len = posted.len();
+    post_words(posted, words, row, number)?;
+    match post_others(terms, links, row, number) {
+        Ok(()) => Ok(()),
+        Err(error) => {
+            posted.cut_to(len);
+            Err(error)
+        }
+    }
+}
+
 impl IndexBuilder {
     /// An index of no rows, with capacity for this many places.
-    pub fn with_capacity(alloc: Global, rows: usize) -> Result<IndexBuilder, AllocError>
-        ensures { IfOk result (λ index. index ≡ []) }
+    pub fn with_capacity(
+        alloc: Global,
+        rows: usize,
+        words: Words,
+    ) -> Result<IndexBuilder, AllocError>
+        ensures { IfOk result (λ index. index ≡ record { rows = []; words = words }) }
     {
         let mut places = PlaceListBuilder::new(alloc);
         places.reserve(rows)?;
@@ -70,6 +123,8 @@ impl IndexBuilder {
             places,
             terms: term_prefix::Postings::new(alloc),
             links: links::Postings::new(alloc),
+            posted_words: term_words::Postings::new(alloc),
+            words,
             rows: GhostRows::new(alloc),
             bytes: 0,
         })
@@ -78,9 +133,10 @@ impl IndexBuilder {
     /// Adds a row, whose record follows those of the rows before it. The row itself isn't kept. An
     /// `Err` changes nothing.
     pub fn push(&mut self, row: &StampedRow) -> Result<(), AllocError>
-        requires { length (segment_of (self.old ++ row.now ∷ [])) < 2 ^ 32 }
+        requires { length (segment_of (self.old.rows ++ row.now ∷ [])) < 2 ^ 32 }
         // promise: the_index_has_every_row
-        ensures ok { OnOk result (self.new ≡ self.old ++ row.now ∷ []) }
+        ensures ok { OnOk result
+            (self.new ≡ record self.old { rows = self.old.rows ++ row.now ∷ [] }) }
         // promise: the_index_has_every_row
         ensures err { OnErr result (self.new ≡ self.old) }
     {
@@ -92,7 +148,14 @@ impl IndexBuilder {
             self.places.cut_to(len);
             return Err(error);
         }
-        match post(&mut self.terms, &mut self.links, row, len as u32) {
+        match post(
+            &mut self.terms,
+            &mut self.links,
+            &mut self.posted_words,
+            self.words,
+            row,
+            len as u32,
+        ) {
             Ok(()) => {
                 self.bytes += bytes;
                 Ok(())
@@ -105,24 +168,29 @@ impl IndexBuilder {
         }
     }
 
-    /// The finished index, whose postings are sorted. Allocates nothing.
-    pub fn seal(self) -> SegmentIndex
-        requires { IsAscending stamped_cmp self }
+    /// The finished index, whose postings are sorted. Allocates only for words.
+    pub fn seal(self) -> Result<SegmentIndex, AllocError>
+        requires { IsAscending stamped_cmp self.rows }
         // promise: the_index_has_every_row
-        ensures { result ≡ self }
+        ensures { IfOk result (λ index. index ≡ self) }
     {
         let IndexBuilder {
             places,
             terms,
             links,
+            posted_words,
+            words,
             rows,
             ..
         } = self;
-        SegmentIndex {
+        let posted_words = posted_words.seal()?;
+        Ok(SegmentIndex {
             places: places.seal(),
             terms: terms.seal(),
             links: links.seal(),
+            posted_words,
+            words,
             rows,
-        }
+        })
     }
 }

@@ -3,7 +3,7 @@
 ghost use Rattle.std.specs.Prelude.{◌≡◌, ◌≤◌, ◌<◌, ◌↔◌, ◌+◌, ◌-◌, ◌^◌};
 ghost use Rattle.std.specs.Prelude.{◌++◌, ◌∷◌, [], List, length, take};
 ghost use Rattle.std.specs.Prelude.{IsTrue, IsSome, IfSome, IfOk, OnOk};
-ghost use Rattle.std.specs.Prelude.{OnErr, Some, slice_get, map, true};
+ghost use Rattle.std.specs.Prelude.{OnErr, Some, slice_get, map};
 ghost use Rattle.std.specs.List.{AllZip, sum_by};
 ghost use Rattle.history_model.specs.declared.stamped.StampedRow.{StampedRow};
 ghost use Rattle.history_model.specs.Lists.{AreLists, union};
@@ -14,6 +14,7 @@ use crate::added_places::add_places;
 use crate::output_postings::{OutputPostings, go_on, no_postings};
 use crate::sealed::SegmentIndex;
 use crate::store_index::StoreIndex;
+use crate::words::Words;
 use as_of_index::PlaceListBuilder;
 use history_model::GhostRows;
 use merge::{MergeProgress, Taken};
@@ -37,6 +38,7 @@ pub struct IndexMerge {
     places: PlaceListBuilder,
     a: GhostRows,
     b: GhostRows,
+    words: Words,
     /// The postings of all rows, once they are merged.
     postings: Option<OutputPostings>,
 }
@@ -46,9 +48,9 @@ impl Model for IndexMerge {
 
     ghost Value = { OutputRows };
 
-    ghost view = { λ m. record { a = m.a; b = m.b; taken = m.at.rows } };
+    ghost view = { λ m. record { a = m.a; b = m.b; taken = m.at.rows; words = m.words } };
 
-    ghost invariant = { λ m. IsOutput m.a m.b m.at m.places m.postings };
+    ghost invariant = { λ m. IsOutput m.a m.b m.words m.at m.places m.postings };
 }
 
 impl IndexMerge {
@@ -59,17 +61,19 @@ impl IndexMerge {
     /// later calls allocate from `alloc`.
     pub fn new(alloc: Global, index: &StoreIndex, i: usize, j: usize) -> IndexMerge
         requires places { i < j }
-        requires within { j < length index.now }
-        requires lists { AreLists index.now }
-        requires short { (a b : List StampedRow) → slice_get index.now i ≡ Some a
-            → slice_get index.now j ≡ Some b
+        requires within { j < length index.now.lists }
+        requires lists { AreLists index.now.lists }
+        requires short { (a b : List StampedRow) → slice_get index.now.lists i ≡ Some a
+            → slice_get index.now.lists j ≡ Some b
             → length (segment_of a) + length (segment_of b) < 2 ^ 32 }
         // promise: a_merge_changes_no_row
-        ensures first { slice_get index.now i ≡ Some result.a }
+        ensures first { slice_get index.now.lists i ≡ Some result.a }
         // promise: a_merge_changes_no_row
-        ensures second { slice_get index.now j ≡ Some result.b }
+        ensures second { slice_get index.now.lists j ≡ Some result.b }
         // promise: a_merge_changes_no_row
         ensures none { result.taken ≡ 0 }
+        // promise: a_merge_changes_no_row
+        ensures words { result.words ≡ index.now.words }
     {
         let rows = index.rows();
         let a = rows[i].copy();
@@ -89,6 +93,7 @@ impl IndexMerge {
             places: PlaceListBuilder::new(alloc),
             a,
             b,
+            words: index.keeps_words(),
             postings,
         }
     }
@@ -131,8 +136,9 @@ impl IndexMerge {
         n: u32,
     ) -> Result<Vec<Taken>, AllocError>
         requires places { i < j }
-        requires first { slice_get index.old i ≡ Some self.old.a }
-        requires second { slice_get index.old j ≡ Some self.old.b }
+        requires first { slice_get index.old.lists i ≡ Some self.old.a }
+        requires second { slice_get index.old.lists j ≡ Some self.old.b }
+        requires words { self.old.words ≡ index.old.words }
         // promise: a_merge_changes_no_row
         ensures index { index.new ≡ index.old }
         // promise: a_merge_changes_no_row
@@ -146,8 +152,8 @@ impl IndexMerge {
         let a = index.places().list(i);
         let b = index.places().list(j);
         let (taken, progress) = self.at.progress.take(alloc, a, b, n)?;
-        let all = progress.is_done();
-        go_on(&mut self.postings, alloc, index, i, j, n, all)?;
+        let left = progress.left();
+        go_on(&mut self.postings, alloc, index, i, j, n, left)?;
         let bytes = add_places(&mut self.places, self.at.bytes, &taken)?;
         self.at = MergeMark {
             progress,
@@ -172,22 +178,32 @@ impl IndexMerge {
     pub fn seal(self) -> SegmentIndex
         requires { left_count self ≡ 0 }
         // promise: a_merge_changes_no_row
-        ensures { result ≡ union self.a self.b }
+        ensures { result ≡ record { rows = union self.a self.b; words = self.words } }
     {
         let IndexMerge {
             places,
             a,
             b,
+            words,
             postings,
             ..
         } = self;
-        let Some(OutputPostings { terms, links }) = postings else {
+        let Some(
+            OutputPostings {
+                terms,
+                links,
+                words: posted_words,
+            },
+        ) = postings
+        else {
             unreachable!()
         };
         SegmentIndex {
             places: places.seal(),
             terms,
             links,
+            posted_words,
+            words,
             rows: GhostRows::union(a, b),
         }
     }

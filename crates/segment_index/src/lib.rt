@@ -1,5 +1,6 @@
 //! The index of a store's segments, in memory: the place of each row, and its postings: the folded
-//! term of a description (`term_prefix`), and its subject and postings by two numbers (`links`).
+//! term of a description (`term_prefix`), its words if these are kept (`term_words`), and its
+//! subject and postings by two numbers (`links`).
 #![tactic(auto)]
 
 mod added_places;
@@ -9,8 +10,10 @@ mod output_postings;
 mod postings_merge;
 mod sealed;
 mod store_index;
+mod words;
 
 pub use builder::IndexBuilder;
 pub use index_merge::{IndexMerge, MergeMark};
 pub use sealed::SegmentIndex;
 pub use store_index::StoreIndex;
+pub use words::Words;

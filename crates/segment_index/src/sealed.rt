@@ -3,12 +3,14 @@
 ghost use Rattle.std.specs.Prelude.{◌≡◌};
 ghost use Rattle.segment.specs.Standing.{places_of};
 
+use crate::words::Words;
 use as_of_index::PlaceList;
 use history_model::GhostRows;
 use segment::RowPlace;
 use std::marker::Model;
 
-/// The places and postings of one segment's rows. Its value in clauses are these rows.
+/// The places and postings of one segment's rows. Its value in clauses are these rows, and whether
+/// words are kept.
 #[derive(Drop)]
 pub struct SegmentIndex {
     /// The place of each row, in key order.
@@ -18,26 +20,29 @@ pub struct SegmentIndex {
     /// What its rows are about, and by which two numbers its relationships, associations and members
     /// of reference sets are found.
     pub(crate) links: links::Sealed,
+    /// The words of its descriptions; no postings if words are left out.
+    pub(crate) posted_words: term_words::Sealed,
+    /// Whether words are kept.
+    pub(crate) words: Words,
     /// The rows, which only clauses can see.
     pub(crate) rows: GhostRows,
 }
 
 impl Model for SegmentIndex {
-    ghost use Rattle.std.specs.Prelude.{List};
-    ghost use Rattle.history_model.specs.declared.stamped.StampedRow.{StampedRow};
-    ghost use Rattle.segment_index.specs.Indexed.{IsIndexed};
+    ghost use Rattle.segment_index.specs.Indexed.{SegmentRows, IsIndexed};
 
-    ghost Value = { List StampedRow };
+    ghost Value = { SegmentRows };
 
-    ghost view = { λ a. a.rows };
+    ghost view = { λ a. record { rows = a.rows; words = a.words } };
 
-    ghost invariant = { λ a. IsIndexed a.rows a.places a.terms a.links };
+    ghost invariant = { λ a. IsIndexed (record { rows = a.rows; words = a.words })
+        a.places a.terms a.links a.posted_words };
 }
 
 impl SegmentIndex {
     /// The place of each row, in key order.
     pub fn places(&self) -> &[RowPlace]
-        ensures { result.now ≡ places_of self.now }
+        ensures { result.now ≡ places_of self.now.rows }
     {
         self.places.places()
     }

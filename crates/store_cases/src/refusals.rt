@@ -8,7 +8,7 @@ use rf2_rows::LineFault;
 use std::alloc::Global;
 
 /// Each refusal; of those that have a part or a position, one example.
-const REFUSALS: [Refusal; 16] = [
+const REFUSALS: [Refusal; 17] = [
     Refusal::OutOfMemory,
     Refusal::DiskFault,
     Refusal::ReopenNeeded,
@@ -24,6 +24,7 @@ const REFUSALS: [Refusal; 16] = [
     Refusal::MergeUnfinished,
     Refusal::CountSpent,
     Refusal::LaterVersion,
+    Refusal::NotKept,
     Refusal::Contradiction { file: 1, line: 2 },
 ];
 

@@ -95,7 +95,7 @@ fn read_and_plan<S: Disk>(
         slot,
         directory: of,
         segments,
-    } = load::<S, SegmentPlaces>(alloc, source)?;
+    } = load::<S, SegmentPlaces>(alloc, source, ())?;
     let imports = chosen(imports, of.imports())?;
     let layout = chosen_layout(layout, of.layout())?;
     check_room(imports, segments.as_slice())?;

@@ -2,6 +2,7 @@
 
 ghost use Rattle.std.specs.Prelude.{◌≡◌, ◌⊎◌, ◌↔◌, ◌+◌, ◌≤◌, length, map};
 ghost use Rattle.std.specs.Prelude.{IfOk, IfErr, MatchResult};
+ghost use Rattle.std.specs.List.{AllByRecursion};
 ghost use Rattle.disk_model.specs.Disk.{IsImage, LeavesOnly, raised_by};
 ghost use Rattle.disk_model.specs.View.{OnlyReads, Calls, AtMost};
 ghost use Rattle.blocks.specs.Slots.{other_read, slots_read};
@@ -34,11 +35,12 @@ pub struct Loaded<T> {
 }
 
 /// Loads the store that a disk represents, after a sync. Each record is read once, through a buffer
-/// of fixed size, and its row is pushed to the builder of its segment. If the bytes represent no
-/// store, the damaged part is returned.
+/// of fixed size, and its row is pushed to the builder of its segment, which was told `told`. If the
+/// bytes represent no store, the damaged part is returned.
 pub fn load<D: Disk, B: SegmentBuilder>(
     alloc: Global,
     disk: &mut D,
+    told: B::Options,
 ) -> Result<Loaded<B::Segment>, LoadFault>
     // promise: a_store_is_opened_as_it_was_left, damage_is_noticed_and_named
     ensures exact { (D.view disk.old).is_honest
@@ -49,6 +51,8 @@ pub fn load<D: Disk, B: SegmentBuilder>(
     // On every disk, the loaded parts are consistent.
     // promise: a_store_is_opened_as_it_was_left
     ensures kept { IfOk result (λ l. IsKept l.directory (map B.sealed l.segments.items)) }
+    ensures told { IfOk result
+        (λ l. AllByRecursion (λ s. B.built_with s ≡ told) l.segments.items) }
     // A crash at any moment leaves what it might have left before.
     ensures any_moment { (D.view disk.old).is_honest
         → LeavesOnly (D.view disk.old).moments (D.view disk.new).moments
@@ -99,7 +103,8 @@ pub fn load<D: Disk, B: SegmentBuilder>(
     let current = read_current(disk, &mut content)?;
     let directory = Directory::decode(alloc, &content)?;
     check_other(disk, current.slot, &directory)?;
-    let segments = read_segments::<D, B>(alloc, disk, directory.entries(), directory.imports())?;
+    let (entries, imports) = (directory.entries(), directory.imports());
+    let segments = read_segments::<D, B>(alloc, disk, entries, imports, told)?;
     if !all_have_kinds::<B>(directory.layout(), segments.as_slice()) {
         return Err(LoadFault::Damaged(Damage::Kind));
     }

@@ -50,10 +50,13 @@ pub(crate) fn read_segments<D: Disk, B: SegmentBuilder>(
     disk: &mut D,
     entries: &[Entry],
     imports: u32,
+    told: B::Options,
 ) -> Result<Vec<B::Segment>, LoadFault>
     requires { AllByRecursion IsEntry entries.now }
     ensures read { IfOk result
         (λ segments. AreRead imports entries.now (map B.sealed segments.items)) }
+    ensures told { IfOk result
+        (λ segments. AllByRecursion (λ s. B.built_with s ≡ told) segments.items) }
     ensures exact { (D.view disk.old).is_honest → MatchResult result
         (λ segments. HoldsAll (pieces_of entries.now (map B.sealed segments.items))
         (D.view disk.old).moments.state.now)
@@ -74,7 +77,7 @@ pub(crate) fn read_segments<D: Disk, B: SegmentBuilder>(
     let mut segments = Vec::with_capacity(alloc, entries.len())?;
     for entry in entries {
         let number = segments.len() + 1;
-        let segment = match read_segment::<D, B>(alloc, disk, &mut window, *entry, imports) {
+        let segment = match read_segment::<D, B>(alloc, disk, &mut window, *entry, imports, told) {
             Ok(segment) => segment,
             Err(fault) => return Err(fault.in_segment(number)),
         };
@@ -93,12 +96,14 @@ fn read_segment<D: Disk, B: SegmentBuilder>(
     window: &mut Window,
     entry: Entry,
     imports: u32,
+    told: B::Options,
 ) -> Result<B::Segment, RowsFault>
     requires { IsEntry entry }
     ensures found { IfOk result (λ segment. IsSegmentOf entry (B.sealed segment)) }
     ensures sum { IfOk result
         (λ segment. HasSumOf entry.sums (segment_with entry (B.sealed segment))) }
     ensures numbered { IfOk result (λ segment. AreNumbered imports (B.sealed segment)) }
+    ensures told { IfOk result (λ segment. B.built_with segment ≡ told) }
     ensures exact { (D.view disk.old).is_honest → MatchResult result
         (λ segment. IsAt (D.view disk.old).moments.state.now entry (B.sealed segment))
         (λ e. IsNotReadAt e imports entry (D.view disk.old).moments.state.now) }
@@ -110,8 +115,8 @@ fn read_segment<D: Disk, B: SegmentBuilder>(
 {
     check_room(disk, entry)?;
     window.begin(entry.extent(), entry.form());
-    let builder = read_rows::<D, B>(alloc, disk, window, entry, imports)?;
-    Ok(builder.seal())
+    let builder = read_rows::<D, B>(alloc, disk, window, entry, imports, told)?;
+    Ok(builder.seal()?)
 }
 
 /// Checks that the disk is long enough for an entry, and that as many rows as it says fit in as
@@ -141,6 +146,7 @@ fn read_rows<D: Disk, B: SegmentBuilder>(
     window: &mut Window,
     entry: Entry,
     imports: u32,
+    told: B::Options,
 ) -> Result<B, RowsFault>
     requires extent { window.old.extent ≡ extent_of entry }
     requires form { window.old.form ≡ form_in entry.sums }
@@ -151,6 +157,7 @@ fn read_rows<D: Disk, B: SegmentBuilder>(
     ensures sum { IfOk result
         (λ builder. HasSumOf entry.sums (segment_with entry (B.rows builder))) }
     ensures numbered { IfOk result (λ builder. AreNumbered imports (B.rows builder)) }
+    ensures told { IfOk result (λ builder. B.options builder ≡ told) }
     ensures exact { (D.view disk.old).is_honest → MatchResult result
         (λ builder. BeginsWith (form_in entry.sums) (B.rows builder)
         (bytes_of (extent_of entry) (D.view disk.old).moments.state.now))
@@ -159,7 +166,7 @@ fn read_rows<D: Disk, B: SegmentBuilder>(
     ensures meters { OnlyReads (CountsFault result) (AtMost entry.bytes)
         (D.view disk.old) (D.view disk.new) }
 {
-    let mut builder = B::with_capacity(alloc, entry.rows as usize)?;
+    let mut builder = B::with_capacity(alloc, entry.rows as usize, told)?;
     let mut to = ReadTo {
         at: 0,
         last: None,
@@ -192,6 +199,7 @@ fn read_row<D: Disk, B: SegmentBuilder>(
     ensures read { IfOk result (λ next. AreReadTo next imports (B.rows builder.new)) }
     ensures summed { to.crc ≡ crc32c (segment_in window.old.form (B.rows builder.old)) → IfOk result
         (λ next. next.crc ≡ crc32c (segment_in window.old.form (B.rows builder.new))) }
+    ensures told { OnOk result (B.options builder.new ≡ B.options builder.old) }
     ensures one { OnOk result (length (B.rows builder.new) ≡ length (B.rows builder.old) + 1) }
     ensures extent { window.new.extent ≡ window.old.extent }
     ensures form { window.new.form ≡ window.old.form }

@@ -45,11 +45,17 @@ impl SegmentPlaces {
 impl SegmentBuilder for SegmentPlaces {
     type Segment = SegmentPlaces;
 
+    type Options = ();
+
     ghost rows = { λ s. s };
 
     ghost sealed = { λ s. s };
 
-    fn with_capacity(alloc: Global, count: usize) -> Result<SegmentPlaces, AllocError> {
+    ghost options = { λ _. tt };
+
+    ghost built_with = { λ _. tt };
+
+    fn with_capacity(alloc: Global, count: usize, _told: ()) -> Result<SegmentPlaces, AllocError> {
         Ok(SegmentPlaces {
             places: Vec::with_capacity(alloc, count)?,
             rows: GhostRows::new(alloc),
@@ -69,8 +75,8 @@ impl SegmentBuilder for SegmentPlaces {
         Ok(())
     }
 
-    fn seal(self) -> SegmentPlaces {
-        self
+    fn seal(self) -> Result<SegmentPlaces, AllocError> {
+        Ok(self)
     }
 
     fn places(segment: &SegmentPlaces) -> &[RowPlace] {

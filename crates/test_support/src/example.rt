@@ -4,7 +4,7 @@ ghost use Rattle.std.specs.Prelude.{◌≤◌, IfSome};
 
 use crate::disks::Spoiled;
 use disk_model::MemDisk;
-use history_store::{Layout, Refusal, RowQuestion, Store};
+use history_store::{Layout, Refusal, RowQuestion, Store, Words};
 use import_check::{Contradictions, Release};
 use line_server::{Held, ServeFault, Source, serve};
 use rf2_rows::Key;
@@ -74,12 +74,15 @@ impl Example {
         disk: MemDisk,
         layout: Layout,
     ) -> Result<Example, (Refusal, MemDisk)> {
-        put_in_box(alloc, Store::create(alloc, sound(disk), layout))
+        put_in_box(
+            alloc,
+            Store::create(alloc, sound(disk), layout, Words::Kept),
+        )
     }
 
     /// Opens the store that a disk represents, or returns the disk.
     pub fn open(alloc: Global, disk: MemDisk) -> Result<Example, (Refusal, MemDisk)> {
-        put_in_box(alloc, Store::open(alloc, sound(disk)))
+        put_in_box(alloc, Store::open(alloc, sound(disk), Words::Kept))
     }
 
     /// Opens the store that a disk represents.
@@ -93,7 +96,8 @@ impl Example {
         disk: MemDisk,
         sound_reads: u64,
     ) -> Result<Example, Refusal> {
-        store_of(put_in_box(alloc, Store::open(alloc, Spoiled { disk, sound_reads })))
+        let disk = Spoiled { disk, sound_reads };
+        store_of(put_in_box(alloc, Store::open(alloc, disk, Words::Kept)))
     }
 
     /// Opens the store that a disk of these bytes represents.

@@ -18,12 +18,13 @@ from .fhir.parameters import with_warnings
 from .fhir.request import OperationRequest
 from .fhir.versions import Edition
 from .frame import FOLDER, JSON, Answer
-from .hub import NEEDS_LATER_LAYOUT, OUT_OF_MEMORY, HubGone, HubRefused, Reply
+from .hub import NEEDS_LATER_LAYOUT, NOT_KEPT, OUT_OF_MEMORY, HubGone, HubRefused, Reply
 from .pages import PAGES
 from .pool import DAMAGED, UNLISTED, Pool
 from .posted import pairs_of
 from .problems import (
-    NO_MEMBERS, Json, Problem, invalid, missing, not_found, not_now, not_supported, too_costly)
+    NO_MEMBERS, NO_WORDS, Json, Problem, invalid, missing, not_found, not_now, not_supported,
+    too_costly)
 from .store import View
 
 FHIR = "application/fhir+json; charset=utf-8"
@@ -58,6 +59,8 @@ BODIES = ("application/json", "application/fhir+json")
 ACCEPTED = {"*/*", "application/*", "json", "text/json", *BODIES}
 # What a client says that it doesn't take.
 UNWANTED = re.compile(r";[ \t]*q=0(\.0*)?[ \t]*(;|\Z)", re.I)
+# Why there is no answer, by the number of `sctd`'s refusal.
+LACKING = {NEEDS_LATER_LAYOUT: NO_MEMBERS, NOT_KEPT: NO_WORDS}
 # What FHIR calls a request that isn't one.
 ISSUES = {408: "timeout", 413: "too-long", 415: "not-supported", 431: "too-long",
           501: "not-supported", 503: "throttled"}
@@ -342,8 +345,8 @@ def problem_of(error: Exception) -> Problem:
         why = str(error) or "it is busy, perhaps with an import"
         return not_now("the terminology can't be asked at the moment: %s" % why)
     if isinstance(error, HubRefused):
-        if error.number == NEEDS_LATER_LAYOUT:
-            return not_supported(NO_MEMBERS)
+        if error.number in LACKING:
+            return not_supported(LACKING[error.number])
         tell("sctd-gateway: the hub said %s" % error)
         return Problem(503 if error.number == OUT_OF_MEMORY else 500, "exception", str(error))
     tell("".join(traceback.format_exception(error)).rstrip("\n"))

@@ -25,7 +25,8 @@ RECORD, RECORDS, CHANGES = "/", "/records", "/changes"
 # What leads to each of the pages, and the words of its form.
 LINKS = {RECORD: ("./", "One record"), RECORDS: ("records", "A list of records"),
          CHANGES: ("changes", "What changed")}
-WORDS = {RECORD: ("q", "date", "other", "known"), RECORDS: ("list", "file", "format", "known"),
+WORDS = {RECORD: ("q", "date", "other", "first", "known"),
+         RECORDS: ("list", "file", "format", "known"),
          CHANGES: ("concept", "from", "to", "format", "known")}
 TITLE = "The record as it stood"
 # A link to a page of the same pin.

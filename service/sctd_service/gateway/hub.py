@@ -17,8 +17,9 @@ LINE = re.compile("[^\x00-\x1f\x7f-\x9f\u2028\u2029]+\\Z")
 # Numbers of refusals: the disk, memory, and a hub whose sessions are all taken.
 OUT_OF_MEMORY = 1
 STORE_IS_GONE = (2, 3, 41)
-# What `sctd` refuses of a store whose layout keeps no members of reference sets.
-NEEDS_LATER_LAYOUT = 14
+# What `sctd` refuses of a store whose layout keeps no members of reference sets, of one whose words
+# aren't kept, and a line whose words don't fit its command.
+NEEDS_LATER_LAYOUT, NOT_KEPT, ARGUMENTS = 14, 16, 43
 
 
 class HubGone(Exception):

@@ -42,6 +42,8 @@ LANGUAGES = {
     "nb": ("61000202103",), "nn": ("91000202106",), "et": ("71000181105",), "es": ("448879004",),
     "ja": ("722129009",), "zh": ("722128001",), "ko": ("21000267104",),
 }
+# What a tag begins with whose language isn't known.
+UNKNOWN = "und"
 # Tags are alike whose letters differ in their case alone.
 FOLDED = {tag.lower(): refset for tag, refset in DIALECTS.items()}
 
@@ -77,6 +79,15 @@ def one_language_of(tag: str, house: Sequence[str]) -> Language:
     return Language(code, own or LANGUAGES.get(code, ()))
 
 
+def searched_in(language: Language, house: Sequence[str]) -> frozenset[str]:
+    """The languages of the terms that are searched: those of the house, and those that are asked
+    for. Nothing stands for any language, as where one of the house isn't known."""
+    found = {tag_of(refset).partition("-")[0] for refset in house}
+    if not found or UNKNOWN in found:
+        return frozenset()
+    return frozenset(found.union(filter(None, (one.code for one in language.each))))
+
+
 def refsets_of(code: str) -> set[str]:
     """All reference sets that are known to be of a language."""
     dialects = {refset for tag, refset in DIALECTS.items() if tag.startswith(code + "-")}
@@ -95,6 +106,6 @@ def tag_of(refset: str) -> str:
     for tag, one in DIALECTS.items():
         if one == refset:
             return tag
-    code = next((code for code, refsets in LANGUAGES.items() if refset in refsets), "und")
+    code = next((code for code, refsets in LANGUAGES.items() if refset in refsets), UNKNOWN)
     parts = [refset[place : place + 8] for place in range(0, len(refset), 8)]
     return code + BY_REFSET + "-".join(parts)

@@ -32,7 +32,7 @@ SCTD_SECONDS = 30.0
 PACKED_BYTES = 1 << 10
 PACKED_APART_BYTES = 64 << 10
 # How much of an answer is made at once, before other requests have their turn.
-SLICE_CONCEPTS = 50
+SLICE_CONCEPTS = 25
 # How long /health may take, whatever hangs.
 HEALTH_SECONDS = 2.0
 # For how long a hub is waited for at the start, and is asked whether its store has rows of the
@@ -74,7 +74,9 @@ LANGUAGES = 8
 # Of questions.
 PAGE_CONCEPTS = 1_000
 WALK_CONCEPTS = 20_000
-FILTER_TERMS = 2_000
+# Terms of which a search by words reads the first so many at least, and of all at most so many.
+FIRST_TERMS = 100
+FILTER_TERMS = 10_000
 FILTER_CHARACTERS = 200
 # Members of a reference set that are read for one expansion, and reference sets that are looked at
 # to see which have members.
@@ -90,7 +92,7 @@ EXPRESSION_LINES = 20_000
 # Above this many concepts all rows of a kind are read, where that is possible, and otherwise those
 # about each concept.
 ASKED_ONE_BY_ONE = 5_000
-# `sctd` answers at most so many rows of one SEARCH or PAGE.
+# `sctd` answers at most so many rows of one WORDS or PAGE.
 QUESTION_ROWS = 1_000
 
 # Of the pages: rows of a Delta that are looked through for one, changed concepts that it shows, and
@@ -104,13 +106,12 @@ RECORD_CHARACTERS = 5_000
 RECORDS_BYTES = 256 << 10
 RECORDS_BODY_BYTES = 1 << 20
 RECORDS_QUESTIONS = 20_000
-RESULT_TERMS = 100
+# Concepts on a page of a search, and those that are suggested while one types.
+RESULT_CONCEPTS = 100
+SUGGESTED_CONCEPTS = 20
 # Children that a record names on a day, and concepts whose place was taken.
 TOLD_CONCEPTS = 50
 # Reference sets that a record tells of, and members of each.
 TOLD_REFSETS = 100
 TOLD_MEMBERS = 20
-SUGGESTED_TERMS = 20
-# Terms among which the shortest are suggested.
-SUGGESTION_TERMS = 200
 REPLACEMENT_STEPS = 30

@@ -1,31 +1,56 @@
 """The page of one record: a concept on its day, beside it on another; and the search for one."""
 
 import re
+from typing import NamedTuple
+
+from markupsafe import Markup
 
 from . import limits
 from .fhir.versions import Edition
 from .frame import RECORD, Answer, Shown, day_of, framed
+from .languages import searched_in
 from .markup import address, aside, joined, tag, term, time, verdict
 from .page_record import Question, nothing_known, record
-from ..snomed import distinct, is_concept_id, names_of, with_hyphens
+from ..snomed import Language, is_concept_id, with_hyphens
 from .problems import invalid
-from .store import FIRST, SEARCHED, View
+from .searching import Hit, searched
+from .store import SEARCHED, View
 
 DIGITS = re.compile(r"[0-9]{4,20}\Z", re.ASCII)
 NO_CONCEPT = "This isn\u2019t a concept\u2019s code: its check digit or its kind is wrong."
 EMPTY = "The store holds no release."
+# How many of the concepts that were found stand before those of a page.
+PLACE = re.compile(r"[0-9]{1,%d}\Z" % len(str(limits.FILTER_TERMS)), re.ASCII)
+
+
+class Search(NamedTuple):
+    """A search on the page: its words, its day, the day to compare with, and the place of the first
+    concept that is shown."""
+
+    edition: Edition
+    q: str
+    day: str
+    other: str
+    first: int
+
+    def address(self, first: int) -> str:
+        """That of another page of what is found."""
+        return address(
+            q=self.q, date=with_hyphens(self.day), other=self.other, first=str(first))
 
 
 async def answer(edition: Edition, view: View, form: dict[str, str], is_pinned: bool) -> Answer:
-    """What is found by a code or the beginning of a term, on the record's day."""
+    """What is found by a code or by words of a term, on the record's day."""
     q = form.get("q", "")
     date, other = (day_of(form.get(name, ""), view.latest) for name in ("date", "other"))
     if not view.latest:
         shown = Shown("", verdict(EMPTY))
     elif not q:
-        shown = Shown("", verdict("Type a code or the first letters of a term."))
+        shown = Shown("", verdict("Type a code, or words of a term."))
     elif not DIGITS.match(q):
-        shown = await results(view, q, date, form.get("other", ""))
+        first = place_of(form.get("first", ""))
+        search = Search(edition, q, min(date, view.latest), form.get("other", ""), first)
+        shown = await results(view, search)
     elif is_concept_id(q):
         shown = await record(view, Question(edition, q, date, other, is_pinned))
     else:
@@ -33,50 +58,63 @@ async def answer(edition: Edition, view: View, form: dict[str, str], is_pinned: 
     return framed(RECORD, form, shown, view, is_pinned)
 
 
-async def results(view: View, q: str, day: str, other: str) -> Shown:
-    """The terms that begin with what was typed."""
-    title = "\u201c%.60s\u201d" % q
-    if not SEARCHED.match(q):
+def place_of(text: str) -> int:
+    if text and not PLACE.match(text):
+        raise invalid("first is how many of the concepts that were found are passed over")
+    return int(text or 0)
+
+
+async def results(view: View, search: Search) -> Shown:
+    """A page of the concepts of which a term has the words that were typed."""
+    title = "\u201c%.60s\u201d" % search.q
+    if not SEARCHED.match(search.q):
         return Shown(title, verdict(
-            "A term\u2019s beginning has 1 to %d characters." % limits.FILTER_CHARACTERS))
-    day = min(day, view.latest)
-    if not (release := view.in_force(day)):
-        return Shown(title, verdict(*nothing_known(day, view.days[0])))
-    searched = await view.search(release, FIRST, limits.RESULT_TERMS, q)
-    found = names_of(searched)
-    rows = await view.concepts(distinct(row.concept for row in found), release)
-    concepts = {row.id: row for row in rows if row}
-    entries = []
-    for row in sorted(found, key=lambda row: (len(row.term), row.term)):
-        if row.concept in concepts:
-            link = tag("a", term(row.term),
-                       href=address(q=row.concept, date=with_hyphens(day), other=other))
-            is_active = concepts[row.concept].is_active
-            inactive = [] if is_active else [" ", tag("span", "inactive", class_="inactive")]
-            entries.append(tag("li", link, " ", aside(row.concept), *inactive))
-    said = counted(len(found), len(searched) < limits.RESULT_TERMS)
-    head = verdict(said, " with \u201c", term(q), "\u201d on ", time(day), ".")
-    listed = tag("ul", *entries, class_="results")
-    return Shown(title, joined(head, listed) if entries else head)
+            "What is looked for has 1 to %d characters." % limits.FILTER_CHARACTERS))
+    if not (release := view.in_force(search.day)):
+        return Shown(title, verdict(*nothing_known(search.day, view.days[0])))
+    end = search.first + limits.RESULT_CONCEPTS
+    found = await of_house(view, search.edition, search.q, release, end + 1)
+    shown = found[search.first : end]
+    is_last = len(found) <= end
+    said = counted(search.first, len(shown), is_last)
+    head = verdict(said, " \u201c", term(search.q), "\u201d on ", time(search.day), ".")
+    listed = tag("ul", *(entry(hit, search) for hit in shown), class_="results")
+    more = tag("p", tag("a", "Next page", href=search.address(end)), class_="links")
+    return Shown(title, joined(head, *[listed] * bool(shown), *[more] * (not is_last)))
 
 
-def counted(count: int, are_all: bool) -> str:
-    if not are_all:
-        return "The first %d terms begin" % count
+async def of_house(view: View, edition: Edition, text: str, day: str, most: int) -> list[Hit]:
+    """What is found in the languages of the house: all of it, or so much at least."""
+    languages = searched_in(Language("", edition.languages), edition.languages)
+    return (await searched(view, text, day, languages, most)).found
+
+
+def entry(hit: Hit, search: Search) -> Markup:
+    code = hit.member.code
+    link = tag("a", term(hit.term),
+               href=address(q=code, date=with_hyphens(search.day), other=search.other))
+    inactive = [] if hit.member.is_active else [" ", tag("span", "inactive", class_="inactive")]
+    return tag("li", link, " ", aside(code), *inactive)
+
+
+def counted(first: int, count: int, is_last: bool) -> str:
+    if count and (first or not is_last):
+        return "These are concepts %d to %d that have a term with" % (first + 1, first + count)
     if count == 1:
-        return "1 term begins"
-    return "%d terms begin" % count if count else "No term begins"
+        return "1 concept has a term with"
+    if count:
+        return "%d concepts have a term with" % count
+    return "No %sconcept has a term with" % ("further " if first else "")
 
 
-async def suggestions(view: View, text: str, date: str) -> list[dict[str, str | bool]]:
-    """The shortest terms that begin with the text, as the page's script shows them."""
+async def suggestions(edition: Edition, view: View, text: str,
+                      date: str) -> list[dict[str, str | bool]]:
+    """The first concepts that are found, as the page's script shows them."""
     if not SEARCHED.match(text) or not view.latest:
-        raise invalid("a term\u2019s beginning has 1 to %d characters" % limits.FILTER_CHARACTERS)
+        raise invalid("what is looked for has 1 to %d characters" % limits.FILTER_CHARACTERS)
     day = view.in_force(day_of(date, view.latest))
     if not day:
         return []
-    rows = names_of(await view.search(day, FIRST, limits.SUGGESTION_TERMS, text))
-    found = sorted(rows, key=lambda row: (len(row.term), row.term))[: limits.SUGGESTED_TERMS]
-    concepts = await view.concepts([row.concept for row in found], day)
-    return [{"code": row.concept, "term": row.term, "active": concept.is_active}
-            for row, concept in zip(found, concepts) if concept]
+    found = await of_house(view, edition, text, day, limits.SUGGESTED_CONCEPTS)
+    return [{"code": hit.member.code, "term": hit.term, "active": hit.member.is_active}
+            for hit in found[: limits.SUGGESTED_CONCEPTS]]

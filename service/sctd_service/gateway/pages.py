@@ -32,7 +32,7 @@ class Page(NamedTuple):
 
 async def suggest(edition: Edition, view: View, form: dict[str, str], is_pinned: bool) -> Answer:
     """Terms for the page's script."""
-    found = await page.suggestions(view, form.get("text", ""), form.get("date", ""))
+    found = await page.suggestions(edition, view, form.get("text", ""), form.get("date", ""))
     return Answer(json.dumps(found).encode(), JSON)
 
 

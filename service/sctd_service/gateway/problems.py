@@ -35,7 +35,11 @@ too_costly = partial(Problem, 422, "too-costly")
 not_supported = partial(Problem, 422, "not-supported")
 not_now = partial(Problem, 503, "transient")
 
-# Why there is no answer from a store below layout 3.
+# Why there is no answer from a store whose words aren't kept.
+NO_WORDS = (
+    "the store is served without its words, so nothing can be searched for in it: its hub has to "
+    "be started without --without-words")
+# Why there is none from one below layout 3.
 NO_MEMBERS = (
     "the store's layout keeps no members of reference sets, which this needs: "
     "sctd copy --layout 3 makes a store that does")

@@ -9,12 +9,12 @@ from collections.abc import AsyncIterator, Iterable, Sequence
 from typing import NamedTuple, TypeVar
 
 from . import limits
-from .hub import NEEDS_LATER_LAYOUT, HubGone, HubRefused, Reply
+from .hub import ARGUMENTS, NEEDS_LATER_LAYOUT, HubGone, HubRefused, Reply
 from .pool import Member, Members, Session
-from .problems import too_costly
+from .problems import Problem, invalid, too_costly
 from ..snomed import (
     Association, Called, Concept, Description, Facts, Language, RefsetMember, Relationship,
-    distinct, display_of, has_name_in, is_concept_id, names_of, preferred_term, with_hyphens)
+    distinct, display_of, has_name_in, is_concept_id, preferred_term, with_hyphens)
 
 Row = TypeVar("Row", Concept, Description, Relationship, Association)
 # A row of any kind, and all versions of one component, oldest first.
@@ -26,6 +26,7 @@ FIRST = "-"
 # What may be looked for: no control character, line end or half of a character.
 SEARCHED = re.compile(
     "[^\x00-\x1f\x7f-\x9f\u2028\u2029\ud800-\udfff]{1,%d}\\Z" % limits.FILTER_CHARACTERS)
+NO_WORD = "what is looked for has no letter and no digit"
 # The identifier of a member, where that of any other row but an association has digits alone.
 MEMBER_ID = re.compile(r"[0-9a-f]{8}(-[0-9a-f]{4}){3}-[0-9a-f]{12}\Z", re.ASCII)
 # The identifier of no member.
@@ -79,6 +80,21 @@ def called_of(reply: Reply) -> list[Called]:
     except (TypeError, IndexError):
         raise not_of_its_kind() from None
     return found
+
+
+class Terms(NamedTuple):
+    """Descriptions that were found, and whether there are no further ones."""
+
+    found: list[Description]
+    are_last: bool
+
+
+class TooManyTerms(Problem):
+    """More terms have the words of a text than are read of them."""
+
+    def __init__(self, text: str) -> None:
+        why = "more than %d terms have the words of %.60r: give more letters, or a further word"
+        super().__init__(422, "too-costly", why % (limits.FILTER_TERMS, text))
 
 
 class Known(NamedTuple):
@@ -279,28 +295,29 @@ class View:
         """All versions of the concept's own row, oldest first."""
         return rows(Concept, await self.told("HISTORY C %s" % code))
 
-    async def search(self, day: str, after: str, limit: int, text: str) -> list[Description]:
-        """The descriptions whose term begins with the text."""
+    async def with_words(self, text: str, day: str, wanted: int = 0) -> AsyncIterator[Terms]:
+        """Some at a time the active descriptions for which each word of the text begins a word of
+        the term, the shortest terms first: as many again each time as before, and at first as many
+        as are wanted."""
         if not SEARCHED.match(text):
             raise ValueError("a text that can't be looked for")
-        return rows(
-            Description, await self.told("SEARCH %s %s %d %s" % (day, after, limit, text)))
-
-    async def with_a_term(self, text: str, day: str) -> list[str]:
-        """The concepts with a term that begins so, the shortest terms first."""
-        shortest: dict[str, int] = {}
-        after, count = FIRST, 0
-        while True:
-            page = await self.search(day, after, limits.QUESTION_ROWS, text)
-            for row in names_of(page):
-                shortest[row.concept] = min(shortest.get(row.concept, len(row.term)), len(row.term))
-            count += len(page)
-            if count > limits.FILTER_TERMS:
-                raise too_costly("more than %d terms begin with %.60r: give more letters"
-                                 % (limits.FILTER_TERMS, text))
-            if len(page) < limits.QUESTION_ROWS:
-                return sorted(shortest, key=lambda code: (shortest[code], int(code)))
-            after = page[-1].id
+        start, end = 0, max(limits.FIRST_TERMS, min(wanted, limits.QUESTION_ROWS))
+        while start < end:
+            lines = ["WORDS %s - %d %d %s" % (day, at, min(limits.QUESTION_ROWS, end - at), text)
+                     for at in range(start, end, limits.QUESTION_ROWS)]
+            try:
+                told = await self.ask(lines)
+            except HubRefused as refused:
+                # (Nothing else of such a line can be wrong.)
+                raise invalid(NO_WORD) if refused.number == ARGUMENTS else refused from None
+            found = [row for reply in told for row in rows(Description, reply)]
+            are_last = len(found) < end - start
+            yield Terms(found, are_last)
+            if are_last:
+                return
+            # (One more than there may be shows that there are too many.)
+            start, end = end, min(2 * end, limits.FILTER_TERMS + 1)
+        raise TooManyTerms(text)
 
     async def members(self, codes: Sequence[str], day: str, keep: bool = True) -> list[Member]:
         """Those of the codes that are there on that day."""

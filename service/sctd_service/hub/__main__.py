@@ -2,7 +2,7 @@
 
 sctd-hub --program SCTD --store FILE --releases DIR [--socket PATH]
          [--questions PATH [--group NAME]] [--merge-above N] [--connections-a-user N]
-         [--read-only | --make-store] [--config FILE]
+         [--without-words] [--read-only | --make-store] [--config FILE]
 sctd-hub imports --store FILE [--program SCTD] [--to-repeat]
 
 The hub starts `sctd serve` and listens on the sockets, of which there has to be one. Each
@@ -45,6 +45,9 @@ names of the releases whose imports the store doesn't have.
 
 With `--read-only` the program only reads FILE, which others may do too, as a second hub on the
 copy that a reader has; there is only the socket of `--questions` then.
+
+With `--without-words` the program keeps no words of terms: it opens in less time and memory, and
+answers WORDS, and with it each search of a gateway, `ERR 16 NotKept`.
 
 With `--make-store` a first start makes the store: where there is no FILE, and nothing but folders
 is beside it. Options may also stand in the table `[hub]` of the file of `--config`. Standard
@@ -155,7 +158,9 @@ async def serve(options: argparse.Namespace) -> int:
         opening.make(options.program, options.store)
     opening.drop_pages(options.store, options.read_only)
     words = [options.program, "serve", "--store", options.store, "--releases", options.releases]
-    program = await Program.start(words + ["--read-only"] * options.read_only)
+    words += ["--read-only"] * options.read_only
+    words += ["--without", "words"] * options.without_words
+    program = await Program.start(words)
     try:
         status = await program.opened()
     except ProgramEndedError as ended:
@@ -212,6 +217,8 @@ def options_of(words: list[str]) -> argparse.Namespace:
                         help="how many segments may stand until the hub merges")
     parser.add_argument("--connections-a-user", type=connections_of, default=MOST_A_USER,
                         metavar="N", help="how many a user may have on the socket of --questions")
+    parser.add_argument("--without-words", action="store_true",
+                        help="keeps no words of terms, so that WORDS is refused")
     parser.add_argument("--read-only", action="store_true",
                         help="only reads the store, so that others may read it too")
     parser.add_argument("--make-store", action="store_true",

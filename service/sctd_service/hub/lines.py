@@ -17,9 +17,9 @@ DIGEST = re.compile(rb"(?:AT ([0-9]{1,10}) )?DIGEST")
 PLAIN = QUESTIONS - {b"AT", b"DIGEST"}
 # Which of a question's words is the date that it asks about, its own word being the first one.
 DATES = {
-    b"TERMS": 1, b"SEARCH": 1, b"CHILDREN": 2, b"ANCESTORS": 2, b"DESCENDANTS": 2, b"CALLED": 2,
-    b"REPLACED": 2, b"REPLACES": 2, b"PAGE": 2, b"MEMBERS": 2, b"VALUES": 2, b"GET": 3, b"ABOUT": 3,
-    b"SOURCES": 3, b"DELTA": 3}
+    b"TERMS": 1, b"WORDS": 1, b"SEARCH": 1, b"CHILDREN": 2, b"ANCESTORS": 2, b"DESCENDANTS": 2,
+    b"CALLED": 2, b"REPLACED": 2, b"REPLACES": 2, b"PAGE": 2, b"MEMBERS": 2, b"VALUES": 2,
+    b"GET": 3, b"ABOUT": 3, b"SOURCES": 3, b"DELTA": 3}
 DATE_DIGITS = 8
 # Lines that the hub carries out itself.
 BACKUP = b"BACKUP"

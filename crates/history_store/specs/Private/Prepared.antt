@@ -29,7 +29,7 @@ pub record IsPlacedAt (d : DirectoryValue) (merge : Option Merge) (rows : List S
 -- the segment of these rows, and the directory that also lists it
 pub record IsPrepared (d : DirectoryValue) (merge : Option Merge) (rows : List StampedRow)
     (p : Prepared) : Type 0 where
-  pub index_is : p.index ≡ rows
+  pub index_is : p.index.rows ≡ rows
   pub bytes_are : p.bytes.items ≡ segment_in (form_in p.entry.sums) rows
   pub entry_is : IsEntry p.entry
   pub segment : IsSegmentOf p.entry rows
@@ -48,7 +48,8 @@ IsUnprepared _ rows catalog = ⊥
 
 -- what is prepared fits the store, and its rows are of kinds that the next layout has
 pub record IsPreparedFor {D : Type 0} (s : StoreValue D) (p : Prepared) : Type 0 where
-  pub apart : AreLists (s.history.rows ∷ p.index ∷ [])
-  pub history : IsHistory (with_rows s.history p.index)
-  pub kinds : AreOfLayout (next_layout s.catalog.layout) p.index
-  pub prepared : IsPrepared (directory_of s) s.catalog.merge p.index p
+  pub apart : AreLists (s.history.rows ∷ p.index.rows ∷ [])
+  pub history : IsHistory (with_rows s.history p.index.rows)
+  pub kinds : AreOfLayout (next_layout s.catalog.layout) p.index.rows
+  pub prepared : IsPrepared (directory_of s) s.catalog.merge p.index.rows p
+  pub words : p.index.words ≡ s.words

@@ -24,6 +24,7 @@ IsNextFor s fresh (nexts.WithoutSegment directory) =
 IsNextFor s fresh (nexts.WithSegment prepared) = (1 ≤ length fresh.rows.items)
     × IsPrepared (directory_of s) s.catalog.merge (stamped (s.history.imports + 1) fresh.rows.items)
     prepared
+    × (prepared.index.words ≡ s.words)
 
 -- the release would be accepted, and `ready` has the receipt of an import and what it writes
 pub record IsMadeReady {D : Type 0} (honest : Type 0) (may_be : RowValue → Type 0)

@@ -11,7 +11,11 @@ from typing import Any
 
 from . import syntax as s
 
-WORD = re.compile(r"[^\W_]+")
+# Letters of Unicode that Python doesn't count as such; a word, which is a longest run of letters
+# and digits; and the words of a pattern that begin where a word of what fits it does.
+FURTHER = "\u24b6-\u24e9\U0001f130-\U0001f149\U0001f150-\U0001f169\U0001f170-\U0001f189"
+WORD = re.compile(r"(?:[^\W_]|[%s])+" % FURTHER)
+WHOLE = re.compile(r"(?<![\w*%s])%s" % (FURTHER, WORD.pattern))
 NUMBER = re.compile(r"[+-]?[0-9]+(\.[0-9]+)?\Z", re.ASCII)
 ANY_LETTERS = "*"
 ORDERS: dict[str, Callable[[Any, Any], bool]] = {
@@ -24,12 +28,17 @@ TRUTHS = {True: "true", False: "false"}
 def folded(text: str) -> str:
     """Without case, and without the marks that letters may bear."""
     letters = unicodedata.normalize("NFD", text.casefold())
-    return "".join(one for one in letters if not unicodedata.combining(one))
+    return "".join(one for one in letters if unicodedata.category(one)[0] != "M")
 
 
 def words_of(text: str) -> list[str]:
-    """The longest runs of letters and digits."""
     return WORD.findall(folded(text))
+
+
+def words_asked(wanted: s.Text) -> list[str]:
+    """Of each of the texts the words that begin words of whatever fits it."""
+    return [" ".join((WHOLE if how == s.WILD else WORD).findall(folded(text)))
+            for how, text in wanted.typed]
 
 
 def begins_all(wanted: str, text: str) -> bool:
@@ -56,11 +65,12 @@ def fits_pattern(pattern: str, text: str) -> bool:
     return text.endswith(last)
 
 
+FITS: dict[str, Callable[[str, str], bool]] = {
+    s.MATCH: begins_all, s.WILD: fits_pattern, s.EXACT: operator.eq}
+
+
 def fits_text(wanted: s.Text, text: str) -> bool:
-    if wanted.how == s.EXACT:
-        return text in wanted.texts
-    fits = fits_pattern if wanted.how == s.WILD else begins_all
-    return any(fits(one, text) for one in wanted.texts)
+    return any(FITS[how](one, text) for how, one in wanted.typed)
 
 
 def number_of(text: str) -> Decimal | None:
@@ -74,9 +84,10 @@ def fits_number(said: str, comparison: str, wanted: s.Number) -> bool:
 
 def fits_day(said: str, comparison: str, wanted: s.Text) -> bool:
     """Days are eight digits each, and are in the order of time."""
+    days = [day for _, day in wanted.typed]
     if comparison in (s.EQUAL, s.NOT_EQUAL):
-        return (said in wanted.texts) == (comparison == s.EQUAL)
-    return ORDERS[comparison](said, wanted.texts[0])
+        return (said in days) == (comparison == s.EQUAL)
+    return ORDERS[comparison](said, days[0])
 
 
 def fits_concrete(said: str, comparison: str, wanted: s.Number | s.Text | s.Truth) -> bool:

@@ -13,7 +13,7 @@ these alone where they are few. So one code is tested without making the set tha
 
 from __future__ import annotations
 
-from collections.abc import Iterable
+from collections.abc import Iterable, Sequence
 
 from . import syntax as s
 from .. import limits
@@ -21,8 +21,9 @@ from . import filtering, refining
 from .fields import Fields
 from .syntax import Ids
 from .terminology import Terminology
+from ..store import TooManyTerms
 from ...snomed import (
-    PARTIALLY_EQUIVALENT_TO, REPLACED_BY, SAME_AS, WAS_A, is_id_of_concept)
+    PARTIALLY_EQUIVALENT_TO, REPLACED_BY, SAME_AS, WAS_A, Description, is_id_of_concept)
 
 NOTHING: Ids = frozenset()
 # The association reference sets of a profile; None is every one.
@@ -176,8 +177,8 @@ class Evaluation:
 
     async def filtered(self, e: s.Filtered, among: Ids | None) -> Ids:
         if e.about == s.OF_DESCRIPTION:
-            base = await self.meant(e.focus, among)
-            return await filtering.described(self.store, self.meant, base, e.filters)
+            described = await self.descriptions(e, among)
+            return await filtering.described(self.store, self.meant, described, e.filters)
         if not isinstance(e.focus, s.Wildcard):
             rows = await self.store.concepts(await self.meant(e.focus, among))
         elif among is not None:
@@ -188,6 +189,24 @@ class Evaluation:
         if isinstance(e.focus, s.Wildcard) and not filtering.asks_active(e.filters):
             rows = [row for row in rows if row.is_active]
         return await filtering.concepts(self.meant, rows, e.filters)
+
+    async def descriptions(self, e: s.Filtered, among: Ids | None) -> Sequence[Description]:
+        """Descriptions of the focus: those that a search by words finds, or else all. (All that
+        there are would be too many, too.)"""
+        found = None
+        try:
+            if not are_few(among):
+                found = await filtering.with_words(self.store, e.filters)
+        except TooManyTerms:
+            if among is None and isinstance(e.focus, s.Wildcard):
+                raise
+        if found is None:
+            base = await self.meant(e.focus, among)
+            with_inactive = filtering.asks_active(e.filters)
+            return [row async for row in self.store.descriptions(base, with_inactive)]
+        named = frozenset(row.concept for row in found)
+        base = await self.meant(e.focus, named if among is None else named & among)
+        return [row for row in found if row.concept in base]
 
     # ---- history supplements
 

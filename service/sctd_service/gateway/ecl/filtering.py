@@ -11,13 +11,13 @@ from collections.abc import Callable, Iterable, Sequence
 from typing import TypeVar
 
 from . import syntax as s
-from .comparing import fits_day, fits_number, fits_text
+from .comparing import fits_day, fits_number, fits_text, words_asked
 from .fields import Fields
 from .syntax import Ids, Meant
 from .terminology import Terminology, those_of
 from ...snomed import Concept, Description, RefsetMember, is_concept_id
 
-ACTIVE, DIALECT, EFFECTIVE_TIME = "active", "dialectId", "effectiveTime"
+ACTIVE, DIALECT, EFFECTIVE_TIME, TERM = "active", "dialectId", "effectiveTime", "term"
 BITS = {True: "1", False: "0"}
 Row = TypeVar("Row", Concept, Description, RefsetMember)
 # What a row says that a filter asks for, or nothing where it has no such field.
@@ -29,7 +29,8 @@ CONCEPT_FIELDS: dict[str, Said[Concept]] = {
 DESCRIPTION_FIELDS: dict[str, Said[Description]] = {
     ACTIVE: lambda row: row.active, "moduleId": lambda row: row.module,
     EFFECTIVE_TIME: lambda row: row.time, "id": lambda row: row.id,
-    "language": lambda row: row.language, "typeId": lambda row: row.type}
+    "language": lambda row: row.language, "typeId": lambda row: row.type,
+    TERM: lambda row: row.term}
 
 
 def asks_active(filters: Iterable[s.Filter]) -> bool:
@@ -42,11 +43,21 @@ async def concepts(meant: Meant, rows: Sequence[Concept], filters: Sequence[s.Fi
     return frozenset(row.id for row in rows)
 
 
-async def described(store: Terminology, meant: Meant, base: Ids,
+async def with_words(store: Terminology,
+                     filters: Sequence[s.Filter]) -> Sequence[Description] | None:
+    """Descriptions that were searched for, among which are all that fit. None where no filter has
+    words to search for."""
+    for one in filters:
+        if one.name == TERM and one.comparison == s.EQUAL and isinstance(one.value, s.Text):
+            asked = words_asked(one.value)
+            if all(asked) and not asks_active(filters):
+                return await store.with_words(asked)
+    return None
+
+
+async def described(store: Terminology, meant: Meant, rows: Sequence[Description],
                     filters: Sequence[s.Filter]) -> Ids:
-    """Those of the base of which a description fits."""
-    rows: Sequence[Description] = [
-        row async for row in store.descriptions(base, asks_active(filters))]
+    """The concepts of those descriptions that fit."""
     for one in sorted(filters, key=lambda one: one.name == DIALECT):
         if one.name == DIALECT:
             rows = await in_dialects(store, meant, rows, one)

@@ -24,6 +24,8 @@ GRAMMAR = Path(__file__).parent / "grammar.lark"
 # What a filter compares with: an expression or a list of concepts, ids of descriptions, words (some
 # of which are known), a day, whether something is so, or a text.
 CODES, IDS, WORDS, DAYS, TRUTHS, TEXTS = "codes", "ids", "words", "days", "truths", "texts"
+# What those are that have no codes, words or days.
+SORTS = {TRUTHS: s.Truth, TEXTS: s.Text}
 COMMON = {"moduleId": CODES, "effectiveTime": DAYS, "active": TRUTHS}
 FORMS = {
     s.OF_CONCEPT: {**COMMON, "definitionStatus": WORDS, "definitionStatusId": CODES},
@@ -43,7 +45,6 @@ ACCEPTABILITIES = {
 PROFILE, WHOLE_PROFILE = "history", re.compile(r"history[-_](min|mod|max)\Z", re.I)
 # What comes behind the last letter.
 END = "$END"
-TERMS_LATER = "term filters aren't answered yet"
 
 
 def misspelt(place: int, why: str) -> Problem:
@@ -250,10 +251,7 @@ class Builder(Transformer[Token, Any]):
         return how, re.sub(r"\\(.)", r"\1", found[-1][1:-1])
 
     def texts(self, *typed: tuple[str, str]) -> s.Text:
-        hows = {how for how, _ in typed}
-        if len(hows) != 1:
-            raise not_supported("texts that are compared in different ways aren't answered")
-        return s.Text(hows.pop(), tuple(text for _, text in typed))
+        return s.Text(typed)
 
 
 # A filter, with where its name stands; and what stands in a list, with its acceptabilities.
@@ -279,8 +277,6 @@ def checked(about: str, filters: Sequence[Named],
         form = FORMS[about].get(name, "")
         if not form and about != s.OF_MEMBER:
             raise misspelt_at(token, "there is no filter %.40s" % token)
-        if form == TEXTS:
-            raise not_supported(TERMS_LATER)
         if not is_of(form, one, others):
             raise misspelt_at(token, "%s isn't compared so" % name)
         if (one.acceptabilities or one.own) and not name.startswith("dialect"):
@@ -293,14 +289,15 @@ def is_of(form: str, one: s.Filter, others: dict[str, Token] | None) -> bool:
     """Whether a filter compares with what it may. (A field of a member has any form.)"""
     value, is_equality = one.value, one.comparison in (s.EQUAL, s.NOT_EQUAL)
     if form == DAYS:
-        return isinstance(value, s.Text) and value.how == s.MATCH and all(
-            map(is_day, value.texts)) and (is_equality or len(value.texts) == 1)
+        return isinstance(value, s.Text) and all(
+            how == s.MATCH and is_day(text) for how, text in value.typed) and (
+                is_equality or len(value.typed) == 1)
     if isinstance(value, s.Number) and not form:
         return True
     if not is_equality:
         return False
-    if form == TRUTHS:
-        return isinstance(value, s.Truth)
+    if form in SORTS:
+        return isinstance(value, SORTS[form])
     if form == WORDS:
         return isinstance(value, tuple) and not are_codes(value)
     if form == IDS:

@@ -76,9 +76,9 @@ def spelled_value(value: s.Value) -> str:
             return "#%s" % number
         case s.Truth(truth):
             return "true" if truth else "false"
-        case s.Text(how, texts):
-            before = "" if how == s.MATCH else how + ":"
-            return listed([before + quoted(text) for text in texts])
+        case s.Text(typed):
+            return listed([("" if how == s.MATCH else how + ":") + quoted(text)
+                           for how, text in typed])
         case _:
             return inner(value)
 

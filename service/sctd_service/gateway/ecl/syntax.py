@@ -114,10 +114,10 @@ class Number(Concrete):
 
 @dataclass(frozen=True)
 class Text(Concrete):
-    """Texts, one of which has to match: by words, by a pattern (`wild`), or exactly."""
+    """Texts, one of which has to fit, each with how it is compared: by words (`match`), as a
+    pattern (`wild`), or exactly."""
 
-    how: str
-    texts: tuple[str, ...]
+    typed: tuple[tuple[str, str], ...]
 
 
 @dataclass(frozen=True)

@@ -247,6 +247,17 @@ class Terminology:
                 for one in rows(Description, reply):
                     yield one
 
+    async def with_words(self, texts: Iterable[str]) -> list[Description]:
+        """The active descriptions of which a term has the words of one of the texts."""
+        found = dict[str, Description]()
+        for text in texts:
+            self.must_have_room(1)
+            # (What begins with a word begins with the beginning of that.)
+            text = text[: limits.FILTER_CHARACTERS]
+            pages = self.view.with_words(text, self.day, limits.QUESTION_ROWS)
+            found |= {row.id: row async for page in pages for row in page.found}
+        return [*found.values()]
+
     async def members_about(self, codes: Collection[str]) -> dict[str, list[RefsetMember]]:
         """The active members of other than association reference sets that refer to each of the
         components."""

@@ -5,11 +5,14 @@ import datetime
 import uuid
 from collections.abc import Sequence
 from dataclasses import astuple, dataclass
+from functools import partial
 
 from .. import limits, refsets
 from ..ecl import syntax
+from ..languages import searched_in
 from ..pool import Member
 from ..problems import Json, invalid, not_supported, too_costly
+from ..searching import searched
 from ..store import SEARCHED
 from ...snomed import Language, with_hyphens
 from .inputs import SCT, not_here
@@ -84,10 +87,8 @@ async def members(request: OperationRequest, value_set: ValueSet, moment: Moment
     if value_set.sort is Sort.WITHIN:
         await request.must_have(value_set.code, moment)
     if wanted.filter is not None:
-        codes = await view.with_a_term(wanted.filter, moment.day)
-        among = await inside(request, value_set, codes, moment)
-        found = await view.members([code for code in codes if code in among], moment.day)
-    elif value_set.sort is Sort.WITHIN:
+        return await members_with_words(request, value_set, moment, wanted, wanted.filter)
+    if value_set.sort is Sort.WITHIN:
         found = [*await view.subtree(value_set.code, moment.day)]
     elif value_set.sort is Sort.IN_REFSET:
         return await members_of_refset(request, value_set.code, moment, wanted)
@@ -102,6 +103,19 @@ async def members(request: OperationRequest, value_set: ValueSet, moment: Moment
     if wanted.active_only:
         found = [member for member in found if member.is_active]
     return found[wanted.offset : wanted.offset + wanted.most], len(found)
+
+
+async def members_with_words(request: OperationRequest, value_set: ValueSet, moment: Moment,
+                             wanted: Wanted, text: str) -> tuple[Sequence[Member], int | None]:
+    """A page of those with a term that has the words of a text. How many there are isn't known
+    where it has enough active ones before all are found."""
+    end = wanted.offset + wanted.most
+    languages = searched_in(wanted.language, request.edition.languages)
+    among = partial(inside, request, value_set, moment=moment)
+    hits = await searched(
+        request.view, text, moment.day, languages, end if wanted.most else 0, among)
+    found = [hit.member for hit in hits.found if hit.member.is_active or not wanted.active_only]
+    return found[wanted.offset : end], len(found) if hits.are_all else None
 
 
 async def members_of_refset(request: OperationRequest, refset: str, moment: Moment,

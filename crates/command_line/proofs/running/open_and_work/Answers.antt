@@ -1,4 +1,5 @@
-use Rattle.std.proofs.Common.{refl}
+use Rattle.std.proofs.Common.{refl, ◌∙◌}
+use Rattle.std.proofs.lemmas.Result.{IfOk-weaker}
 use Rattle.command_line.proofs.running.open_and_work.Goals as goal
 
 pub returns-in-Ok : goal.returns-in-Ok
@@ -6,6 +7,7 @@ returns-in-Ok g c =
     record {
       had = c.open.result;
       opening = c.open.ensures.opened;
+      words = IfOk-weaker c.open.result _ _ (λ store is. is ∙ c.words_for.ensures) c.open.ensures.words;
       does = rw (c.in-Ok.is, c.close.ensures.disk) c.do_work-ended.ensures;
     }
 
@@ -14,5 +16,6 @@ returns-in-Err g c =
     record {
       had = c.open.result;
       opening = c.open.ensures.opened;
+      words = IfOk-weaker c.open.result _ _ (λ store is. is ∙ c.words_for.ensures) c.open.ensures.words;
       does = rw c.in-Err.is (c.refuse.ensures, refl, refl);
     }

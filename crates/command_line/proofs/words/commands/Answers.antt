@@ -17,9 +17,10 @@ pub returns : goal.returns
 returns c =
     let one = added c.sctd.result c.in_ok-init.field-0 c.in_ok-subcommand.field-0 empty_program init_command c.sctd.ensures c.in_ok-init.ensures c.in_ok-subcommand.ensures in
     let two = added _ c.in_ok-import.field-0 c.in_ok-subcommand-2.field-0 _ import_command one c.in_ok-import.ensures c.in_ok-subcommand-2.ensures in
-    let three = added _ c.in_ok-serve.field-0 c.in_ok-subcommand-3.field-0 _ serve_command two c.in_ok-serve.ensures c.in_ok-subcommand-3.ensures in
+    let own = c.in_ok-serve.ensures in
+    let three = added _ c.in_ok-serve.field-0 c.in_ok-subcommand-3.field-0 _ (serve_command own.0) two own.2 c.in_ok-subcommand-3.ensures in
     let four = added _ c.in_ok-status.field-0 c.in_ok-subcommand-4.field-0 _ status_command three c.in_ok-status.ensures c.in_ok-subcommand-4.ensures in
     let five = added _ c.in_ok-merge.field-0 c.in_ok-subcommand-5.field-0 _ merge_command four c.in_ok-merge.ensures c.in_ok-subcommand-5.ensures in
     let six = added _ c.in_ok-copy.field-0 c.in_ok-subcommand-6.field-0 _ copy_command five c.in_ok-copy.ensures c.in_ok-subcommand-6.ensures in
     let seven = added _ c.in_ok-digest.field-0 c.in_ok-subcommand-7.field-0 _ digest_command six c.in_ok-digest.ensures c.in_ok-subcommand-7.ensures in
-    IfOk-weaker c.subcommand-8.result _ _ (λ r h. added c.in_ok-subcommand-7.field-0 c.demo.result r _ demo_command seven c.demo.ensures h) c.subcommand-8.ensures
+    IfOk-weaker c.subcommand-8.result _ _ (λ r h. (own.0, own.1, added c.in_ok-subcommand-7.field-0 c.demo.result r _ demo_command seven c.demo.ensures h)) c.subcommand-8.ensures

@@ -8,4 +8,5 @@ returns-in_ok-get_str-in-serve c = (
   c.in-serve.is,
   sym (first_value-rows (found_of c.args.found.now) (codes "releases")) ∙ sym c.in_ok-get_str-in-serve.ensures,
   c.is_set.ensures,
+  c.words_of.ensures,
 )

@@ -54,7 +54,7 @@ returns-clause-begun c =
 pub new-requires-clause-within : goal.new-requires-clause-within
 new-requires-clause-within c =
     let within = subst (λ (x : List Entry). AreFewest x c.in-Some.i c.in-Some.j) c.entries-entries.ensures.entries c.in-Some.ensures.found in
-    omega (arith, within.within, segments_count c.args.directory.now.entries c.args.index.now c.requires.kept.segments)
+    omega (arith, within.within, segments_count c.args.directory.now.entries c.args.index.now.lists c.requires.kept.segments)
 
 pub new-requires-clause-short : goal.new-requires-clause-short
 new-requires-clause-short c a b a_is b_is =
@@ -65,4 +65,4 @@ new-requires-clause-short c a b a_is b_is =
     let second = get_or l c.in-Some.j no_entry in
     let first_is : slice_get c.args.directory.now.entries c.in-Some.i ≡ Some first = subst (λ (x : List Entry). slice_get x c.in-Some.i ≡ Some first) same (slice_get-get_or l c.in-Some.i no_entry (omega (arith, fewest.below, fewest.within))) in
     let second_is : slice_get c.args.directory.now.entries c.in-Some.j ≡ Some second = subst (λ (x : List Entry). slice_get x c.in-Some.j ≡ Some second) same (slice_get-get_or l c.in-Some.j no_entry fewest.within) in
-    both_short c.args.directory.now.entries c.args.index.now c.in-Some.i c.in-Some.j first second a b c.requires.kept.segments first_is second_is a_is b_is (omega (arith, c.in-Some-checked_add.ensures.0, c.in-Some-checked_add.ensures.1))
+    both_short c.args.directory.now.entries c.args.index.now.lists c.in-Some.i c.in-Some.j first second a b c.requires.kept.segments first_is second_is a_is b_is (omega (arith, c.in-Some-checked_add.ensures.0, c.in-Some-checked_add.ensures.1))

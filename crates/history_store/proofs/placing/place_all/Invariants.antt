@@ -7,7 +7,8 @@ use Rattle.history_store.proofs.placing.place_all.Given as goal
 -- the rows so far have their records, and are in the index
 abbrev pub invariant-loop-row : goal.invariant-loop-row
 invariant-loop-row l = record {
-  split : stamped l.import l.fn.rows.items ≡ l.index ++ stamped l.import l.row-iterator;
-  bytes : l.bytes.items ≡ segment_in l.form l.index;
-  each : AllByRecursion IsStamped l.index;
+  split : stamped l.import l.fn.rows.items ≡ l.index.rows ++ stamped l.import l.row-iterator;
+  bytes : l.bytes.items ≡ segment_in l.form l.index.rows;
+  each : AllByRecursion IsStamped l.index.rows;
+  words : l.index.words ≡ l.fn.words;
 }

@@ -3,6 +3,7 @@ use Rattle.history_model.specs.declared.stamped.StampedRow.{StampedRow}
 use Rattle.history_model.specs.History.{stamped}
 use Rattle.history_model.proofs.Receipts.{length-stamped}
 use Rattle.segment.specs.Records.{IsSegmentIn, segment_of}
+use Rattle.segment_index.specs.Indexed.{SegmentRows}
 use Rattle.history_store.specs.MergeInProgress.{merge_of}
 use Rattle.history_store.specs.Private.Prepared.{IsPlacedAt}
 use Rattle.checksum.specs.Crc32c.{crc32c}
@@ -54,5 +55,8 @@ returns-clause-prepared c =
     let listing = added_listing d c.in_ok-next.next (merge_of c.args.merge.now) rows entry c.crc32c.result c.find_room.ensures.listing c.requires.not_spent some c.in_ok-extent.ensures.placed count sums (search rules) c.in_ok-next.ensures in
     let placed = subst (λ (l : List StampedRow). IsPlacedAt d (merge_of c.args.merge.now) l c.in_ok-extent.extent) list c.in_ok-extent.ensures.placed in
     let segment = subst (λ (f : Form). IsSegmentIn f (stamped (d.imports + 1) c.args.fresh.items) c.in_ok-bytes.field-0.bytes.items) (c.form.ensures ∙ ap form_of c.layout-layout.ensures) (subst (λ (l : List StampedRow). IsSegmentIn c.form.result l c.in_ok-bytes.field-0.bytes.items) own c.in_ok-bytes.ensures.segment) in
-    let index = c.in_ok-bytes.ensures.index ∙ own in
+    let index = ap (λ (s : SegmentRows). s.rows) c.in_ok-bytes.ensures.index ∙ own in
     prepared_is d (merge_of c.args.merge.now) _ _ c.in_ok-next.next listing placed (count ∙ ap length list) (sums ∙ ap (sums_of d.layout) (c.crc32c.ensures ∙ ap crc32c c.deref-2.ensures.value)) c.in_ok-next.ensures c.add.ensures index segment
+
+pub returns-clause-words : goal.returns-clause-words
+returns-clause-words c = ap (λ (s : SegmentRows). s.words) c.in_ok-bytes.ensures.index

@@ -1,4 +1,4 @@
-use Rattle.std.proofs.Common.{List, None}
+use Rattle.std.proofs.Common.{List, None, refl}
 use Rattle.rf2_values.specs.Row.{RowValue}
 use Rattle.history_model.specs.declared.stamped.StampedRow.{StampedRow}
 use Rattle.history_model.specs.History.{rows_at}
@@ -9,48 +9,51 @@ use Rattle.index_answers.proofs.Kept.{of_index, wanting}
 use Rattle.index_answers.proofs.selecting.select.Goals as goal
 
 pub returns-in-Get-clause-answer : goal.returns-in-Get-clause-answer
-returns-in-Get-clause-answer g c = rw c.in-Get.is (of_index c.args.index.now c.get.ensures.answer c.places-places.ensures)
+returns-in-Get-clause-answer g c = rw c.in-Get.is (refl, of_index c.args.index.now.lists c.get.ensures.answer c.places-places.ensures)
 
 pub returns-in-History-clause-answer : goal.returns-in-History-clause-answer
-returns-in-History-clause-answer g c = rw c.in-History.is (of_index c.args.index.now c.versions.ensures.answer c.places-places.ensures)
+returns-in-History-clause-answer g c = rw c.in-History.is (refl, of_index c.args.index.now.lists c.versions.ensures.answer c.places-places.ensures)
 
 pub returns-in-Page-clause-answer : goal.returns-in-Page-clause-answer
-returns-in-Page-clause-answer g c = rw c.in-Page.is (of_index c.args.index.now c.page.ensures.answer c.places-places.ensures)
+returns-in-Page-clause-answer g c = rw c.in-Page.is (refl, of_index c.args.index.now.lists c.page.ensures.answer c.places-places.ensures)
 
 pub returns-in-Delta-clause-answer : goal.returns-in-Delta-clause-answer
-returns-in-Delta-clause-answer g c = rw c.in-Delta.is (of_index c.args.index.now c.delta.ensures.answer c.places-places.ensures)
+returns-in-Delta-clause-answer g c = rw c.in-Delta.is (refl, of_index c.args.index.now.lists c.delta.ensures.answer c.places-places.ensures)
 
 pub returns-in-Terms-clause-answer : goal.returns-in-Terms-clause-answer
 returns-in-Terms-clause-answer g c =
     let t = c.in-Terms in
     let shown : List (List StampedRow) → List RowValue = λ lists. rows_at c.args.pin (listed lists) in
-    rw t.is (of_index c.args.index.now
-    (wanting (λ lists. search_terms t.prefix.now t.date None t.limit (shown lists)) (λ lists. terms t.prefix.now t.date t.limit (shown lists))
-    (λ lists. search_from_the_first t.prefix.now t.date t.limit (shown lists)) c.find.ensures.answer) (c.places-places.ensures, c.terms.ensures))
+    rw t.is (
+      refl,
+      of_index c.args.index.now.lists
+          (wanting (λ lists. search_terms t.prefix.now t.date None t.limit (shown lists)) (λ lists. terms t.prefix.now t.date t.limit (shown lists))
+          (λ lists. search_from_the_first t.prefix.now t.date t.limit (shown lists)) c.find.ensures.answer) (c.places-places.ensures, c.terms.ensures),
+    )
 
 pub returns-in-Search-clause-answer : goal.returns-in-Search-clause-answer
-returns-in-Search-clause-answer g c = rw c.in-Search.is (of_index c.args.index.now c.find-in-Search.ensures.answer (c.places-places.ensures, c.terms-in-Search.ensures))
+returns-in-Search-clause-answer g c = rw c.in-Search.is (refl, of_index c.args.index.now.lists c.find-in-Search.ensures.answer (c.places-places.ensures, c.terms-in-Search.ensures))
 
 pub returns-in-About-clause-answer : goal.returns-in-About-clause-answer
-returns-in-About-clause-answer g c = rw c.in-About.is (of_index c.args.index.now c.about.ensures.answer (c.places-places.ensures, c.links-links.ensures))
+returns-in-About-clause-answer g c = rw c.in-About.is (refl, of_index c.args.index.now.lists c.about.ensures.answer (c.places-places.ensures, c.links-links.ensures))
 
 pub returns-in-Timeline-clause-answer : goal.returns-in-Timeline-clause-answer
-returns-in-Timeline-clause-answer g c = rw c.in-Timeline.is (of_index c.args.index.now c.timeline.ensures.answer (c.places-places.ensures, c.links-links.ensures))
+returns-in-Timeline-clause-answer g c = rw c.in-Timeline.is (refl, of_index c.args.index.now.lists c.timeline.ensures.answer (c.places-places.ensures, c.links-links.ensures))
 
 pub returns-in-Replaced-clause-answer : goal.returns-in-Replaced-clause-answer
-returns-in-Replaced-clause-answer g c = rw c.in-Replaced.is (of_index c.args.index.now c.replacements.ensures.answer (c.places-places.ensures, c.links-links.ensures))
+returns-in-Replaced-clause-answer g c = rw c.in-Replaced.is (refl, of_index c.args.index.now.lists c.replacements.ensures.answer (c.places-places.ensures, c.links-links.ensures))
 
 pub returns-in-Replaces-clause-answer : goal.returns-in-Replaces-clause-answer
-returns-in-Replaces-clause-answer g c = rw c.in-Replaces.is (of_index c.args.index.now c.replaces.ensures.answer (c.places-places.ensures, c.links-links.ensures))
+returns-in-Replaces-clause-answer g c = rw c.in-Replaces.is (refl, of_index c.args.index.now.lists c.replaces.ensures.answer (c.places-places.ensures, c.links-links.ensures))
 
 pub returns-in-Members-clause-answer : goal.returns-in-Members-clause-answer
-returns-in-Members-clause-answer g c = rw c.in-Members.is (of_index c.args.index.now c.members.ensures.answer (c.places-places.ensures, c.links-links.ensures))
+returns-in-Members-clause-answer g c = rw c.in-Members.is (refl, of_index c.args.index.now.lists c.members.ensures.answer (c.places-places.ensures, c.links-links.ensures))
 
 pub returns-in-Values-clause-answer : goal.returns-in-Values-clause-answer
-returns-in-Values-clause-answer g c = rw c.in-Values.is (of_index c.args.index.now c.values.ensures.answer (c.places-places.ensures, c.links-links.ensures))
+returns-in-Values-clause-answer g c = rw c.in-Values.is (refl, of_index c.args.index.now.lists c.values.ensures.answer (c.places-places.ensures, c.links-links.ensures))
 
 pub returns-in-Called-clause-answer : goal.returns-in-Called-clause-answer
-returns-in-Called-clause-answer g c = rw c.in-Called.is (of_index c.args.index.now c.called.ensures.answer (c.places-places.ensures, c.links-links.ensures))
+returns-in-Called-clause-answer g c = rw c.in-Called.is (refl, of_index c.args.index.now.lists c.called.ensures.answer (c.places-places.ensures, c.links-links.ensures))
 
 pub returns-in-AllRows-clause-answer : goal.returns-in-AllRows-clause-answer
-returns-in-AllRows-clause-answer g c = rw c.in-AllRows.is (of_index c.args.index.now c.rows_of_kind.ensures.answer c.places-places.ensures)
+returns-in-AllRows-clause-answer g c = rw c.in-AllRows.is (refl, of_index c.args.index.now.lists c.rows_of_kind.ensures.answer c.places-places.ensures)

@@ -5,7 +5,7 @@ use Rattle.line_commands.specs.Requests.{command_of}
 use Rattle.line_server.specs.declared.refusal.LineRefusal.{LineRefusal}
 use Rattle.line_server.specs.Replies.{server}
 use Rattle.line_server.specs.Turns.{HasTurn, IsToldBy}
-use Rattle.line_server.proofs.Responding.{nothing_asked, held_back, for_later}
+use Rattle.line_server.proofs.Responding.{nothing_asked, held_back, for_lack}
 use Rattle.line_server.proofs.answering.carry_out.Goals as goal
 
 pub returns-in-Err-clause-turn : goal.returns-in-Err-clause-turn
@@ -42,7 +42,10 @@ returns-then-holds_back-clause-turn g c = λ line reads.
     let state = server c.args.state.now c.args.store.now in
     subst (λ (refusal : LineRefusal). HasTurn asked g.D.Disk.view line state state (λ turn. IsToldBy (Err refusal) turn.outcome)) (sym c.reason.ensures) (held_back asked g.D.Disk.view line c.in-Ok.request.session (command_of c.in-Ok.request.command) state asks (c.holds_back.ensures.0 c.if-holds_back.true))
 
-pub returns-then-needs_later-clause-turn : goal.returns-then-needs_later-clause-turn
-returns-then-needs_later-clause-turn g c = λ line reads.
+pub returns-in-Some-clause-turn : goal.returns-in-Some-clause-turn
+returns-in-Some-clause-turn g c = λ line reads.
     let asks = rw c.in-Ok.is at reads in
-    for_later (source_view (g.S.Source.is_honest c.args.source.now) (g.S.Source.releases c.args.source.now)) g.D.Disk.view line c.in-Ok.request.session (command_of c.in-Ok.request.command) (server c.args.state.now c.args.store.now) asks (c.needs_later.ensures.0 c.if-needs_later.true)
+    for_lack (source_view (g.S.Source.is_honest c.args.source.now) (g.S.Source.releases c.args.source.now)) g.D.Disk.view line c.in-Ok.request.session (command_of c.in-Ok.request.command) (server c.args.state.now c.args.store.now) asks c.in-Some.lack c.in-Some.ensures
+
+pub respond-requires-clause-has_all : goal.respond-requires-clause-has_all
+respond-requires-clause-has_all g c = λ any. c.in_default.ensures any.0 any.1

@@ -30,14 +30,14 @@ pub ask-requires-clause-asked : goal.ask-requires-clause-asked
 ask-requires-clause-asked g c = let asked = rw c.in-Ask.is at c.requires.asked in asked
 
 pub returns-in-Ask-clause-pins : goal.returns-in-Ask-clause-pins
-returns-in-Ask-clause-pins g c = within_more _ _ _ (c.ask.ensures (g.S.Source.releases c.args.source.now) c.args.session c.args.state.now (Ask (question_of c.in-Ask.question)) (inl (refl, (sym (c.pin_of-pin.ensures ∙ ap (λ (k : ℕ). pin_of c.args.state.now.pins c.args.session k) c.imports.ensures)))) (rw c.in-Ask.is at c.requires.has_layout)).grows c.requires.within
+returns-in-Ask-clause-pins g c = within_more _ _ _ (c.ask.ensures (g.S.Source.releases c.args.source.now) c.args.session c.args.state.now (Ask (question_of c.in-Ask.question)) (inl (refl, (sym (c.pin_of-pin.ensures ∙ ap (λ (k : ℕ). pin_of c.args.state.now.pins c.args.session k) c.imports.ensures)))) (rw c.in-Ask.is at c.requires.has_all)).grows c.requires.within
 
 pub returns-in-Ask-clause-response : goal.returns-in-Ask-clause-response
 returns-in-Ask-clause-response g c =
-    rw c.in-Ask.is (any_source (source_view (g.S.Source.is_honest c.args.source.now) (g.S.Source.releases c.args.source.now)) g.D.Disk.view c.ask.result c.args.session (Ask (question_of c.in-Ask.question)) (server c.args.state.now c.args.store.now) (server (noted c.ask.result c.args.state.now) c.ask.new.store) (c.ask.ensures (g.S.Source.releases c.args.source.now) c.args.session c.args.state.now (Ask (question_of c.in-Ask.question)) (inl (refl, (sym (c.pin_of-pin.ensures ∙ ap (λ (k : ℕ). pin_of c.args.state.now.pins c.args.session k) c.imports.ensures)))) (rw c.in-Ask.is at c.requires.has_layout)))
+    rw c.in-Ask.is (any_source (source_view (g.S.Source.is_honest c.args.source.now) (g.S.Source.releases c.args.source.now)) g.D.Disk.view c.ask.result c.args.session (Ask (question_of c.in-Ask.question)) (server c.args.state.now c.args.store.now) (server (noted c.ask.result c.args.state.now) c.ask.new.store) (c.ask.ensures (g.S.Source.releases c.args.source.now) c.args.session c.args.state.now (Ask (question_of c.in-Ask.question)) (inl (refl, (sym (c.pin_of-pin.ensures ∙ ap (λ (k : ℕ). pin_of c.args.state.now.pins c.args.session k) c.imports.ensures)))) (rw c.in-Ask.is at c.requires.has_all)))
 
-pub ask_at-requires-clause-has_layout : goal.ask_at-requires-clause-has_layout
-ask_at-requires-clause-has_layout g c = let has_layout = rw c.in-At.is at c.requires.has_layout in has_layout
+pub ask_at-requires-clause-has_all : goal.ask_at-requires-clause-has_all
+ask_at-requires-clause-has_all g c = let has_all = rw c.in-At.is at c.requires.has_all in has_all
 
 pub ask_at-requires-clause-asked : goal.ask_at-requires-clause-asked
 ask_at-requires-clause-asked g c = let asked = rw c.in-At.is at c.requires.asked in (asked.1.0, asked.1.1)

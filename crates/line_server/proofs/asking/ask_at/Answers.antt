@@ -9,4 +9,4 @@ returns-then-number-imports g c =
 
 pub returns : goal.returns
 returns g c =
-    asked_behind g.D.Disk.view c.args.number (question_of c.args.question.now) c.args.store.now c.ask.new.store c.ask.result c.requires.has_layout (subst (λ (n : ℕ). c.args.number ≤ n) c.imports.ensures c.if-number-imports.false) c.ask.ensures
+    asked_behind g.D.Disk.view c.args.number (question_of c.args.question.now) c.args.store.now c.ask.new.store c.ask.result c.requires.has_all (subst (λ (n : ℕ). c.args.number ≤ n) c.imports.ensures c.if-number-imports.false) c.ask.ensures

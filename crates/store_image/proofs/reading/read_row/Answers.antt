@@ -30,7 +30,7 @@ pub returns-clause-read : goal.returns-clause-read
 returns-clause-read g c =
     let low = c.if-row-imports.false in
     let above = c.comes_after.ensures.0 c.if-not-comes_after.false in
-    more_are_read c.args.to c.args.imports c.in_ok-row.at c.crc_to.result c.key-key.result (g.B.SegmentBuilder.rows c.args.builder.now) _ c.in_ok-row.row c.requires.rows c.in_ok-row.ensures.is c.in_ok-row.ensures.next (omega (arith, low)) c.key-key.ensures.key above c.in_ok-push.ensures
+    more_are_read c.args.to c.args.imports c.in_ok-row.at c.crc_to.result c.key-key.result (g.B.SegmentBuilder.rows c.args.builder.now) _ c.in_ok-row.row c.requires.rows c.in_ok-row.ensures.is c.in_ok-row.ensures.next (omega (arith, low)) c.key-key.ensures.key above c.in_ok-push.ensures.rows
 
 pub crc_to-requires-clause-up : goal.crc_to-requires-clause-up
 crc_to-requires-clause-up g c = let next = c.in_ok-row.ensures.next in omega (arith, next)
@@ -38,8 +38,8 @@ crc_to-requires-clause-up g c = let next = c.in_ok-row.ensures.next in omega (ar
 pub returns-clause-summed : goal.returns-clause-summed
 returns-clause-summed g c was =
     let seen = c.in_ok-row.ensures.seen in
-    summed_on c.args.window.now.form (g.B.SegmentBuilder.rows c.args.builder.now) _ c.in_ok-row.row c.args.to.crc c.crc_to.result c.args.to.at c.in_ok-row.at c.row_at.new.self.from _ was c.in_ok-row.ensures.next seen.1 c.in_ok-push.ensures c.crc_to.ensures
+    summed_on c.args.window.now.form (g.B.SegmentBuilder.rows c.args.builder.now) _ c.in_ok-row.row c.args.to.crc c.crc_to.result c.args.to.at c.in_ok-row.at c.row_at.new.self.from _ was c.in_ok-row.ensures.next seen.1 c.in_ok-push.ensures.rows c.crc_to.ensures
 
 pub returns-clause-exact : goal.returns-clause-exact
 returns-clause-exact g c honest sees begins =
-    begins_more c.args.window.now.form c.args.to.at (g.B.SegmentBuilder.rows c.args.builder.now) _ c.in_ok-row.row _ c.requires.rows.at_is (c.in_ok-row.ensures.exact honest sees) c.in_ok-push.ensures begins
+    begins_more c.args.window.now.form c.args.to.at (g.B.SegmentBuilder.rows c.args.builder.now) _ c.in_ok-row.row _ c.requires.rows.at_is (c.in_ok-row.ensures.exact honest sees) c.in_ok-push.ensures.rows begins

@@ -21,10 +21,11 @@ same_now old new same = ap (λ (m : Moments). m.state.now) same
 
 pub rows-init : goal.rows-init
 rows-init g c =
-    let none = c.in_ok-builder.ensures in
+    let none = c.in_ok-builder.ensures.rows in
     record {
       read = none_read c.args.imports _ none;
       count = subst (λ (rows : List StampedRow). ◌≡◌ {A = ℕ} (length rows) 0) (sym none) refl;
+      told = c.in_ok-builder.ensures.told;
       summed = none_summed (form_in c.args.entry.sums) _ none;
       extent = c.requires.extent;
       form = c.requires.form;
@@ -64,6 +65,7 @@ rows-preserved g c =
     record {
       read = read.read;
       count = omega (arith, one, count);
+      told = read.told ∙ inv.told;
       summed = subst (λ (f : Form). c.in_ok-to.to.crc ≡ crc32c (segment_in f (g.B.SegmentBuilder.rows c.read_row.new.builder))) inv.form (read.summed (subst (λ (f : Form). c.rows.to.crc ≡ crc32c (segment_in f (g.B.SegmentBuilder.rows c.rows.builder))) (sym inv.form) inv.summed));
       extent = read.extent ∙ inv.extent;
       form = read.form ∙ inv.form;

@@ -17,6 +17,7 @@ invariant-rows g l =
     record {
       read : AreReadTo l.to l.fn.imports rows;
       count : length rows ≡ l._count;
+      told : g.B.SegmentBuilder.options l.builder ≡ l.fn.told;
       summed : l.to.crc ≡ crc32c (segment_in (form_in l.fn.entry.sums) rows);
       extent : l.window.extent ≡ extent_of l.fn.entry;
       form : l.window.form ≡ form_in l.fn.entry.sums;

@@ -2,6 +2,7 @@ use Rattle.std.specs.Prelude.{map}
 use Rattle.std.specs.List.{AllByRecursion}
 use Rattle.std.proofs.Common.{◌≡◌, ◌++◌, ℕ, List, [], ◌∷◌, get_or, take, sym, ap, subst, ◌∙◌, arith, take_all, length-take, rules}
 use Rattle.std.proofs.lemmas.List.{length-map, map_push as map-push}
+use Rattle.list_lemmas.proofs.Each.{each_of_pushed}
 use Rattle.disk_model.specs.Disk.{Moments}
 use Rattle.directory.specs.declared.entry.Entry.{Entry}
 use Rattle.history_model.specs.declared.stamped.StampedRow.{StampedRow}
@@ -64,6 +65,7 @@ loop-entry-preserved g c =
       segments = more_segments entries i none lists more rows lt more_is inv.segments read.found;
       sums = more_summed entries i none lists more rows lt more_is inv.sums read.sum;
       numbered = more_numbered entries i none lists more rows lt more_is c.args.imports inv.numbered read.numbered;
+      told = subst (λ l. AllByRecursion (λ s. g.B.SegmentBuilder.built_with s ≡ c.args.told) l) (sym c.in_ok-push.ensures.items) (each_of_pushed (λ s. g.B.SegmentBuilder.built_with s ≡ c.args.told) c.loop-entry.segments.items c.in-Ok.segment inv.told read.told);
       held = λ honest.
           let there = subst (λ (f : List ℕ). IsAt f (get_or entries i none) rows) (same_now _ _ (inv.moments honest)) (read.exact (inv.honesty.0 honest)) in
           more_held entries i none lists more rows lt more_is _ inv.segments (inv.held honest) there;

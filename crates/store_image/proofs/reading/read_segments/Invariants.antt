@@ -17,6 +17,7 @@ invariant-loop-entry g l =
       segments : AreSegments done lists;
       sums : AreSummed done lists;
       numbered : AllByRecursion (AreNumbered l.fn.imports) lists;
+      told : AllByRecursion (λ s. g.B.SegmentBuilder.built_with s ≡ l.fn.told) l.segments.items;
       held : (g.D.Disk.view l.fn.disk).is_honest → HoldsAll (pieces_of done lists) old.state.now;
       moments : (g.D.Disk.view l.fn.disk).is_honest → (g.D.Disk.view l.disk).moments ≡ old;
       honesty : (g.D.Disk.view l.fn.disk).is_honest ↔ (g.D.Disk.view l.disk).is_honest;

@@ -9,22 +9,21 @@ pub invariant_of-self : goal.invariant_of-self
 invariant_of-self g c =
     let r = c.new-reader.ensures in
     let now = c.added-read.new.reader in
-    held_after g.D.Disk.view _ _ _ _ _ _ _ _ _ _ c.self.invariant.0 r.disk r.cache r.entries r.shown c.self.inside.merge now.disk.now now.cache.now now.entries.now now.shown.now c.self.invariant.1 c.added-read.ensures.stays.0
-    (g.met.D.Disk.now_is_image c.self.inside.disk) c.added-read.ensures.answer.reader.honesty
+    let both = held_after g.D.Disk.view _ _ _ _ _ _ _ _ _ _ c.self.invariant.0 r.disk r.cache r.entries r.shown c.self.inside.merge now.disk.now now.cache.now now.entries.now now.shown.now c.self.invariant.1 c.added-read.ensures.stays.0
+    (g.met.D.Disk.now_is_image c.self.inside.disk) c.added-read.ensures.answer.reader.honesty in
+    (both.0, both.1, c.self.invariant.2)
 
-pub returns : goal.returns
-returns g c = rw (← c.self.view_is) (
+pub returns-clause-answer : goal.returns-clause-answer
+returns-clause-answer g c = rw (← c.self.view_is) (
     let r = c.new-reader.ensures in
     let e = c.added-read.ensures in
     let a = c.answered.ensures in
-    record {
-      answer = rows_answered g.D.Disk.view row_items (added c.args.number c.args.kind c.args.after c.args.limit)
-          (Lists c.places.result.now) _ c.answered.new.self c.self.inside.index c.new-reader.result.shown.now c.new-reader.result.entries.now
-          c.new-reader.result.disk.now c.added-read.new.reader.disk.now c.new-reader.result.cache.now c.added-read.new.reader.cache.now c.added-read.result c.answered.result
-          false (ap (λ e. e.now) e.stays.3) refl c.if-self.false r.disk r.cache r.entries r.shown
-          c.places.ensures (λ up. reader_honest g.D.Disk.view _ _ _ _ _ _ _ _ _ _ c.self.invariant.0 r.disk r.cache r.entries r.shown up c.if-self.false (g.met.D.Disk.now_is_image c.self.inside.disk up))
-          e.answer e.stays.0 e.stays.5 e.stays.6 a.same a.left a.disk a.cache a.acknowledged;
-    })
+    rows_answered g.D.Disk.view row_items (added c.args.number c.args.kind c.args.after c.args.limit)
+    (Lists c.places.result.now) _ c.answered.new.self c.self.inside.index.lists c.new-reader.result.shown.now c.new-reader.result.entries.now
+    c.new-reader.result.disk.now c.added-read.new.reader.disk.now c.new-reader.result.cache.now c.added-read.new.reader.cache.now c.added-read.result c.answered.result
+    false (ap (λ e. e.now) e.stays.3) refl c.if-self.false r.disk r.cache r.entries r.shown
+    c.places.ensures (λ up. reader_honest g.D.Disk.view _ _ _ _ _ _ _ _ _ _ c.self.invariant.0 r.disk r.cache r.entries r.shown up c.if-self.false (g.met.D.Disk.now_is_image c.self.inside.disk up))
+    e.answer e.stays.0 e.stays.5 e.stays.6 a.same a.left a.disk a.cache a.acknowledged)
 
-pub returns-then-self : goal.returns-then-self
-returns-then-self g c = rw (← c.self.view_is) (record { answer = closed_rows g.D.Disk.view row_items (added c.args.number c.args.kind c.args.after c.args.limit) false _ c.if-self.true })
+pub returns-then-self-clause-answer : goal.returns-then-self-clause-answer
+returns-then-self-clause-answer g c = rw (← c.self.view_is) (closed_rows g.D.Disk.view row_items (added c.args.number c.args.kind c.args.after c.args.limit) false _ c.if-self.true)

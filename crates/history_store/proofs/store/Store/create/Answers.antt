@@ -1,22 +1,24 @@
 use Rattle.std.specs.Prelude.{None}
 use Rattle.std.proofs.Common.{ap, refl}
 use Rattle.directory.specs.Listings.{DirectoryValue}
+use Rattle.segment_index.specs.Indexed.{StoreRows}
 use Rattle.history_store.specs.Catalog.{catalog_of}
 use Rattle.history_store.proofs.Held.{held_first, held_stands, new_history}
 use Rattle.history_store.proofs.store.Store.create.Goals as goal
 
 pub invariant_of-result : goal.invariant_of-result
 invariant_of-result g c = (
-  held_first _ _ _ _ _ _ c.args.layout c.in-Ok.ensures.empty.0 c.in-Ok.ensures.empty.1 c.in-Ok.ensures.empty.2 (λ honest. c.in-Ok.ensures.on_disk (c.start.ensures.meters.counts.honesty.1 honest)),
+  held_first _ _ _ _ _ _ c.args.layout c.in-Ok.ensures.empty.0 (ap (λ (x : StoreRows). x.lists) c.in-Ok.ensures.empty.1) c.in-Ok.ensures.empty.2 (λ honest. c.in-Ok.ensures.on_disk (c.start.ensures.meters.counts.honesty.1 honest)),
   record { merging = tt; written = λ up still. tt; summed = λ up still. tt },
+  tt,
 )
 
 pub returns-in-Ok-clause-made : goal.returns-in-Ok-clause-made
 returns-in-Ok-clause-made g c =
-    let held = held_first _ _ _ _ _ _ c.args.layout c.in-Ok.ensures.empty.0 c.in-Ok.ensures.empty.1 c.in-Ok.ensures.empty.2 (λ honest. c.in-Ok.ensures.on_disk (c.start.ensures.meters.counts.honesty.1 honest)) in
+    let held = held_first _ _ _ _ _ _ c.args.layout c.in-Ok.ensures.empty.0 (ap (λ (x : StoreRows). x.lists) c.in-Ok.ensures.empty.1) c.in-Ok.ensures.empty.2 (λ honest. c.in-Ok.ensures.on_disk (c.start.ensures.meters.counts.honesty.1 honest)) in
     record {
-      exact = λ honest. (c.in-Ok.ensures.made honest, record { history = new_history _ _ c.args.layout c.in-Ok.ensures.empty.0 c.in-Ok.ensures.empty.1; catalog = ap (λ (l : DirectoryValue). catalog_of l None) c.in-Ok.ensures.empty.0; open_still = refl });
-      new = record { history = new_history _ _ c.args.layout c.in-Ok.ensures.empty.0 c.in-Ok.ensures.empty.1; catalog = ap (λ (l : DirectoryValue). catalog_of l None) c.in-Ok.ensures.empty.0; open_still = refl };
+      exact = λ honest. (c.in-Ok.ensures.made honest, record { history = new_history _ _ c.args.layout c.in-Ok.ensures.empty.0 (ap (λ (x : StoreRows). x.lists) c.in-Ok.ensures.empty.1); catalog = ap (λ (l : DirectoryValue). catalog_of l None) c.in-Ok.ensures.empty.0; open_still = refl });
+      new = record { history = new_history _ _ c.args.layout c.in-Ok.ensures.empty.0 (ap (λ (x : StoreRows). x.lists) c.in-Ok.ensures.empty.1); catalog = ap (λ (l : DirectoryValue). catalog_of l None) c.in-Ok.ensures.empty.0; open_still = refl };
       causes = tt;
       refused = λ honest. tt;
       untouched = c.start.ensures.untouched;

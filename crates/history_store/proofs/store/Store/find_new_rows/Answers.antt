@@ -22,14 +22,16 @@ use Rattle.history_store.proofs.store.Store.find_new_rows.Goals.{then-matches, e
 pub invariant_of-self : goal.invariant_of-self
 invariant_of-self g c =
     let sound = lent_sound _ _ _ _ _ _ _ c.self.invariant.0 c.places.result.now c.new-reader.result.shown.now c.imports-pin.result c.places.ensures c.new-reader.ensures.shown c.imports-pin.ensures in
-    held_left g.D.Disk.view _ _ _ _ _ _ _ _ _ _ c.self.invariant.0 c.new-reader.ensures.disk c.new-reader.ensures.cache c.new-reader.ensures.entries c.new-reader.ensures.shown c.self.inside.merge c.find_new_rows.new.reader.disk.now c.find_new_rows.new.reader.cache.now c.self.invariant.1 c.find_new_rows.ensures.stays.0
-    (λ up still. (c.find_new_rows.ensures.honesty (reader_honest g.D.Disk.view _ _ _ _ _ _ _ _ _ _ c.self.invariant.0 c.new-reader.ensures.disk c.new-reader.ensures.cache c.new-reader.ensures.entries c.new-reader.ensures.shown up still (g.met.D.Disk.now_is_image c.self.inside.disk up)) sound.0 sound.1).1)
+    let both = held_left g.D.Disk.view _ _ _ _ _ _ _ _ _ _ c.self.invariant.0 c.new-reader.ensures.disk c.new-reader.ensures.cache c.new-reader.ensures.entries c.new-reader.ensures.shown c.self.inside.merge c.find_new_rows.new.reader.disk.now c.find_new_rows.new.reader.cache.now c.self.invariant.1 c.find_new_rows.ensures.stays.0
+    (λ up still. (c.find_new_rows.ensures.honesty (reader_honest g.D.Disk.view _ _ _ _ _ _ _ _ _ _ c.self.invariant.0 c.new-reader.ensures.disk c.new-reader.ensures.cache c.new-reader.ensures.entries c.new-reader.ensures.shown up still (g.met.D.Disk.now_is_image c.self.inside.disk up)) sound.0 sound.1).1) in
+    (both.0, both.1, c.self.invariant.2)
 
 pub invariant_of-self-else-matches : goal.invariant_of-self-else-matches
 invariant_of-self-else-matches g c =
     let sound = lent_sound _ _ _ _ _ _ _ c.self.invariant.0 c.places.result.now c.new-reader.result.shown.now c.imports-pin.result c.places.ensures c.new-reader.ensures.shown c.imports-pin.ensures in
-    held_left g.D.Disk.view _ _ _ _ _ _ _ _ _ _ c.self.invariant.0 c.new-reader.ensures.disk c.new-reader.ensures.cache c.new-reader.ensures.entries c.new-reader.ensures.shown c.self.inside.merge c.find_new_rows.new.reader.disk.now c.find_new_rows.new.reader.cache.now c.self.invariant.1 c.find_new_rows.ensures.stays.0
-    (λ up still. (c.find_new_rows.ensures.honesty (reader_honest g.D.Disk.view _ _ _ _ _ _ _ _ _ _ c.self.invariant.0 c.new-reader.ensures.disk c.new-reader.ensures.cache c.new-reader.ensures.entries c.new-reader.ensures.shown up still (g.met.D.Disk.now_is_image c.self.inside.disk up)) sound.0 sound.1).1)
+    let both = held_left g.D.Disk.view _ _ _ _ _ _ _ _ _ _ c.self.invariant.0 c.new-reader.ensures.disk c.new-reader.ensures.cache c.new-reader.ensures.entries c.new-reader.ensures.shown c.self.inside.merge c.find_new_rows.new.reader.disk.now c.find_new_rows.new.reader.cache.now c.self.invariant.1 c.find_new_rows.ensures.stays.0
+    (λ up still. (c.find_new_rows.ensures.honesty (reader_honest g.D.Disk.view _ _ _ _ _ _ _ _ _ _ c.self.invariant.0 c.new-reader.ensures.disk c.new-reader.ensures.cache c.new-reader.ensures.entries c.new-reader.ensures.shown up still (g.met.D.Disk.now_is_image c.self.inside.disk up)) sound.0 sound.1).1) in
+    (both.0, both.1, c.self.invariant.2)
 
 pub returns-in-Ok-clause-accepted : goal.returns-in-Ok-clause-accepted
 returns-in-Ok-clause-accepted g c =

@@ -29,7 +29,7 @@ returns-clause-ready g c =
     let len : vec_len c.in_ok-fresh.fresh.rows ≡ length c.in_ok-fresh.fresh.rows.items = search (rules) in
     let some : 1 ≤ length c.in_ok-fresh.fresh.rows.items = grind (arith, nat_tests, len, c.if-is_empty.ensures) in
     let e = c.in_ok-fresh.ensures in
-    ready_at _ _ c.args.self.now _ c.find_new_rows.new.self c.args.release c.in_ok-fresh.fresh (nexts.WithSegment c.in_ok-prepared.prepared) _ _ c.self.view_is (admitted _ _ _ _ (c.if-is_spent.ensures.left refl) c.if-is_for_later.ensures refl) c.self-2.view_is c.self-2.invariant.0.kept.history e.still e.brings e.accepted (ap (λ n. n + 1) c.imports.ensures) (c.len.ensures ∙ len) (some, c.in_ok-prepared.ensures.prepared)
+    ready_at _ _ c.args.self.now _ c.find_new_rows.new.self c.args.release c.in_ok-fresh.fresh (nexts.WithSegment c.in_ok-prepared.prepared) _ _ c.self.view_is (admitted _ _ _ _ (c.if-is_spent.ensures.left refl) c.if-is_for_later.ensures refl) c.self-2.view_is c.self-2.invariant.0.kept.history e.still e.brings e.accepted (ap (λ n. n + 1) c.imports.ensures) (c.len.ensures ∙ len) (some, c.in_ok-prepared.ensures.prepared, c.in_ok-prepared.ensures.words ∙ c.keeps_words-words.ensures)
 
 pub returns-clause-stood : goal.returns-clause-stood
 returns-clause-stood g c = rw (← c.self.view_is) (λ honest still. record { open_still = still; each = held_stands _ _ _ _ _ _ _ c.self.invariant.0 honest still })
@@ -53,7 +53,7 @@ returns-clause-checking g c =
     let e = c.in_ok-fresh.ensures in
     let standing : (g.D.Disk.view c.find_new_rows.new.self.disk).is_honest → c.find_new_rows.new.self.needs_reopen ≡ false → IsAcknowledged g.D.Disk.view c.find_new_rows.new.self =
     rw (← c.self-2.view_is) (λ honest still. record { open_still = still; each = held_stands _ _ _ _ _ _ _ c.self-2.invariant.0 honest still }) in
-    let ready = ready_at (g.D.Disk.view c.args.self.now.disk).is_honest _ c.args.self.now _ c.find_new_rows.new.self c.args.release c.in_ok-fresh.fresh (nexts.WithSegment c.in_ok-prepared.prepared) _ _ c.self.view_is (admitted _ _ _ _ (c.if-is_spent.ensures.left refl) c.if-is_for_later.ensures refl) c.self-2.view_is c.self-2.invariant.0.kept.history e.still e.brings e.accepted (ap (λ n. n + 1) c.imports.ensures) (c.len.ensures ∙ len) (some, c.in_ok-prepared.ensures.prepared) in
+    let ready = ready_at (g.D.Disk.view c.args.self.now.disk).is_honest _ c.args.self.now _ c.find_new_rows.new.self c.args.release c.in_ok-fresh.fresh (nexts.WithSegment c.in_ok-prepared.prepared) _ _ c.self.view_is (admitted _ _ _ _ (c.if-is_spent.ensures.left refl) c.if-is_for_later.ensures refl) c.self-2.view_is c.self-2.invariant.0.kept.history e.still e.brings e.accepted (ap (λ n. n + 1) c.imports.ensures) (c.len.ensures ∙ len) (some, c.in_ok-prepared.ensures.prepared, c.in_ok-prepared.ensures.words ∙ c.keeps_words-words.ensures) in
     checked_after g.D.Disk.view c.args.self.now c.find_new_rows.new.self c.args.release _
     (record { still = e.still; not_later = not_later _ c.args.self.now c.args.release c.self.view_is (admitted _ _ _ _ (c.if-is_spent.ensures.left refl) c.if-is_for_later.ensures refl); acknowledged = standing; fresh = c.in_ok-fresh.fresh; meters = e.meters })
     (foreseen _ c.find_new_rows.new.self c.args.release _ ready c.args.self.now e.still) (foreseen_at_all _ c.find_new_rows.new.self c.args.release _ ready c.args.self.now e.still) e.meters.counts.failures

@@ -8,7 +8,7 @@ use Rattle.history_store.proofs.Held.{held_stands}
 use Rattle.history_store.proofs.store.Store.merge_begin.Goals as goal
 
 pub begin-requires-clause-long : goal.begin-requires-clause-long
-begin-requires-clause-long g c = segments_long c.self.inside.directory.entries c.self.inside.index c.self.invariant.0.kept.segments
+begin-requires-clause-long g c = segments_long c.self.inside.directory.entries c.self.inside.index.lists c.self.invariant.0.kept.segments
 
 pub begin-requires-clause-kept : goal.begin-requires-clause-kept
 begin-requires-clause-kept g c = c.self.invariant.0.kept
@@ -16,7 +16,8 @@ begin-requires-clause-kept g c = c.self.invariant.0.kept
 pub invariant_of-self : goal.invariant_of-self
 invariant_of-self g c = (
   c.self.invariant.0,
-  begun_merge c.self.inside.directory c.in_ok-merge.merge c.in_ok-merge.ensures.begun c.self.inside.index c.self.invariant.0.kept c.in_ok-merge.ensures.first c.in_ok-merge.ensures.second _ _ _,
+  begun_merge c.self.inside.directory c.in_ok-merge.merge c.in_ok-merge.ensures.begun c.self.inside.index.lists c.self.invariant.0.kept c.in_ok-merge.ensures.first c.in_ok-merge.ensures.second _ _ _,
+  c.in_ok-merge.ensures.words,
 )
 
 pub returns-then-is_some-clause-answer : goal.returns-then-is_some-clause-answer
@@ -32,7 +33,7 @@ returns-in_err-merge-clause-answer g c =
 pub returns-clause-answer : goal.returns-clause-answer
 returns-clause-answer g c =
     let none = goes_not_on c.self.inside.merge (sym c.is_some.ensures ∙ c.if-is_some.false) in
-    rw (← c.self.view_is) (is_begun c.self.inside.directory c.in_ok-merge.merge c.in_ok-merge.ensures.begun c.self.inside.merge c.left-left.result none c.left-left.ensures (all_left c.self.inside.directory c.in_ok-merge.merge c.in_ok-merge.ensures.begun c.self.inside.index c.self.invariant.0.kept c.in_ok-merge.ensures.first c.in_ok-merge.ensures.second), record { history = refl; was_open = c.if-self.false; open_still = c.if-self.false })
+    rw (← c.self.view_is) (is_begun c.self.inside.directory c.in_ok-merge.merge c.in_ok-merge.ensures.begun c.self.inside.merge c.left-left.result none c.left-left.ensures (all_left c.self.inside.directory c.in_ok-merge.merge c.in_ok-merge.ensures.begun c.self.inside.index.lists c.self.invariant.0.kept c.in_ok-merge.ensures.first c.in_ok-merge.ensures.second), record { history = refl; was_open = c.if-self.false; open_still = c.if-self.false })
 
 pub returns-clause-acknowledged : goal.returns-clause-acknowledged
 returns-clause-acknowledged g c =

@@ -5,6 +5,8 @@ use Rattle.blocks.specs.Cache.{is_in, Forgets}
 use Rattle.directory.specs.Listings.{DirectoryValue, form_in}
 use Rattle.segment.specs.Records.{segment_in}
 use Rattle.segment.proofs.SegmentLaws.{length-segment_in}
+use Rattle.segment_index.specs.Indexed.{StoreRows}
+use Rattle.history_store.specs.MergeInProgress.{HasSameWords}
 use Rattle.history_store.specs.StoreValue.{StoreValue}
 use Rattle.history_store.specs.Private.Prepared.{IsPreparedFor}
 use Rattle.history_store.proofs.GoingOn.{merge_added}
@@ -19,37 +21,38 @@ pub add-requires-clause-room : goal.add-requires-clause-room
 add-requires-clause-room g c =
     let for = subst (λ (s : StoreValue g.row.D.Denot). IsPreparedFor s c.args.prepared) (sym c.self.view_is) c.requires.prepared in
     let few = below_places c.self.inside.directory.layout (length c.self.inside.directory.entries) for.prepared.placed.few in
-    let count = segments_count c.self.inside.directory.entries c.self.inside.index c.self.invariant.0.kept.segments in
+    let count = segments_count c.self.inside.directory.entries c.self.inside.index.lists c.self.invariant.0.kept.segments in
     omega (arith, few, count)
 
 pub add-requires-clause-lists : goal.add-requires-clause-lists
 add-requires-clause-lists g c =
     let for = subst (λ (s : StoreValue g.row.D.Denot). IsPreparedFor s c.args.prepared) (sym c.self.view_is) c.requires.prepared in
-    (is_added _ c.self.inside.directory c.self.inside.index c.args.prepared c.self.invariant.0.kept refl refl refl refl refl for).apart
+    (is_added _ c.self.inside.directory c.self.inside.index.lists c.args.prepared c.self.invariant.0.kept refl refl refl refl refl for).apart
 
 pub add_segment-requires-clause-bytes : goal.add_segment-requires-clause-bytes
 add_segment-requires-clause-bytes g c =
     let for = subst (λ (s : StoreValue g.row.D.Denot). IsPreparedFor s c.args.prepared) (sym c.self.view_is) c.requires.prepared in
-    ap length (c.deref.ensures.value ∙ for.prepared.bytes_are) ∙ length-segment_in (form_in c.args.prepared.entry.sums) c.args.prepared.index ∙ for.prepared.segment.bytes
+    ap length (c.deref.ensures.value ∙ for.prepared.bytes_are) ∙ length-segment_in (form_in c.args.prepared.entry.sums) c.args.prepared.index.rows ∙ for.prepared.segment.bytes
 
 pub invariant_of-self : goal.invariant_of-self
 invariant_of-self g c =
     let for = subst (λ (s : StoreValue g.row.D.Denot). IsPreparedFor s c.args.prepared) (sym c.self.view_is) c.requires.prepared in
-    let added = is_added _ c.self.inside.directory c.self.inside.index c.args.prepared c.self.invariant.0.kept refl refl refl refl refl for in (
-      held_added _ (g.D.Disk.view c.add_segment.new.disk).is_honest _ (g.D.Disk.view c.add_segment.new.disk).moments.state c.self.inside.cache c.forget.new.self c.forget-in-Ok.new.self _ c.in-Ok.slot c.self.inside.directory c.args.prepared.directory c.args.prepared.entry c.self.inside.index c.add.new.self c.args.prepared.index c.self.inside.needs_reopen c.self.invariant.0 c.add_segment.ensures.meters.honesty.1 added c.in-Ok.ensures.next
+    let added = is_added _ c.self.inside.directory c.self.inside.index.lists c.args.prepared c.self.invariant.0.kept refl refl refl refl refl for in (
+      held_added _ (g.D.Disk.view c.add_segment.new.disk).is_honest _ (g.D.Disk.view c.add_segment.new.disk).moments.state c.self.inside.cache c.forget.new.self c.forget-in-Ok.new.self _ c.in-Ok.slot c.self.inside.directory c.args.prepared.directory c.args.prepared.entry c.self.inside.index.lists c.add.new.self.lists c.args.prepared.index.rows c.self.inside.needs_reopen c.self.invariant.0 c.add_segment.ensures.meters.honesty.1 added c.in-Ok.ensures.next
           (λ honest given lists segment on is same. c.in-Ok.ensures.on_disk honest given lists segment on is (c.deref.ensures.value ∙ for.prepared.bytes_are ∙ ap (segment_in (form_in c.args.prepared.entry.sums)) (sym same)))
           c.in-Ok.ensures.elsewhere (subst (λ x. Forgets (is_in x) c.self.inside.cache c.forget.new.self) c.extent.ensures c.forget.ensures) (subst (λ x. Forgets (is_in x) c.forget.new.self c.forget-in-Ok.new.self) c.extent-in-Ok.ensures c.forget-in-Ok.ensures)
-          c.add.ensures,
-      merge_added _ (g.D.Disk.view c.add_segment.new.disk).is_honest _ (g.D.Disk.view c.add_segment.new.disk).moments.state.now (other c.self.inside.slot) c.self.inside.directory c.args.prepared.directory c.args.prepared.entry c.self.inside.index c.add.new.self c.args.prepared.index c.self.inside.merge c.self.inside.needs_reopen c.self.invariant.1 c.add_segment.ensures.meters.honesty.1
+          (ap (λ (x : StoreRows). x.lists) c.add.ensures),
+      merge_added _ (g.D.Disk.view c.add_segment.new.disk).is_honest _ (g.D.Disk.view c.add_segment.new.disk).moments.state.now (other c.self.inside.slot) c.self.inside.directory c.args.prepared.directory c.args.prepared.entry c.self.inside.index.lists c.add.new.self.lists c.args.prepared.index.rows c.self.inside.merge c.self.inside.needs_reopen c.self.invariant.1 c.add_segment.ensures.meters.honesty.1
           (ap (λ (l : DirectoryValue). l.entries) for.prepared.directory_is) (ap (λ (l : DirectoryValue). l.layout) for.prepared.directory_is) for.prepared.entry_is for.prepared.at_fit c.in-Ok.ensures.elsewhere
-          c.add.ensures,
+          (ap (λ (x : StoreRows). x.lists) c.add.ensures),
+      subst (λ w. HasSameWords w c.self.inside.merge) (sym (ap (λ (x : StoreRows). x.words) c.add.ensures)) c.self.invariant.2,
     )
 
 pub returns-in-Ok-clause-step : goal.returns-in-Ok-clause-step
 returns-in-Ok-clause-step g c =
     let for = subst (λ (s : StoreValue g.row.D.Denot). IsPreparedFor s c.args.prepared) (sym c.self.view_is) c.requires.prepared in
     let still = subst (λ (s : StoreValue g.row.D.Denot). s.needs_reopen ≡ false) (sym c.self.view_is) c.requires.still in
-    rw (← c.self.view_is) (with_more c.self.inside.directory c.args.prepared.directory c.self.inside.index c.add.new.self c.args.prepared.index c.self.invariant.0.kept c.add.ensures for.apart (ap (λ (l : DirectoryValue). l.imports) for.prepared.directory_is), refl, still)
+    rw (← c.self.view_is) (with_more c.self.inside.directory c.args.prepared.directory c.self.inside.index.lists c.add.new.self.lists c.args.prepared.index.rows c.self.invariant.0.kept (ap (λ (x : StoreRows). x.lists) c.add.ensures) for.apart (ap (λ (l : DirectoryValue). l.imports) for.prepared.directory_is), refl, still)
 
 pub returns-in-Ok-clause-elsewhere : goal.returns-in-Ok-clause-elsewhere
 returns-in-Ok-clause-elsewhere g c =
@@ -66,14 +69,14 @@ pub returns-in-Ok-clause-crash : goal.returns-in-Ok-clause-crash
 returns-in-Ok-clause-crash g c =
     let was_open = subst (λ (s : StoreValue g.row.D.Denot). s.needs_reopen ≡ false) (sym c.self.view_is) c.requires.still in
     let for = subst (λ (s : StoreValue g.row.D.Denot). IsPreparedFor s c.args.prepared) (sym c.self.view_is) c.requires.prepared in
-    let added = is_added _ c.self.inside.directory c.self.inside.index c.args.prepared c.self.invariant.0.kept refl refl refl refl refl for in
-    let held = held_added _ (g.D.Disk.view c.add_segment.new.disk).is_honest _ (g.D.Disk.view c.add_segment.new.disk).moments.state c.self.inside.cache c.forget.new.self c.forget-in-Ok.new.self _ c.in-Ok.slot c.self.inside.directory c.args.prepared.directory c.args.prepared.entry c.self.inside.index c.add.new.self c.args.prepared.index c.self.inside.needs_reopen c.self.invariant.0 c.add_segment.ensures.meters.honesty.1 added c.in-Ok.ensures.next
+    let added = is_added _ c.self.inside.directory c.self.inside.index.lists c.args.prepared c.self.invariant.0.kept refl refl refl refl refl for in
+    let held = held_added _ (g.D.Disk.view c.add_segment.new.disk).is_honest _ (g.D.Disk.view c.add_segment.new.disk).moments.state c.self.inside.cache c.forget.new.self c.forget-in-Ok.new.self _ c.in-Ok.slot c.self.inside.directory c.args.prepared.directory c.args.prepared.entry c.self.inside.index.lists c.add.new.self.lists c.args.prepared.index.rows c.self.inside.needs_reopen c.self.invariant.0 c.add_segment.ensures.meters.honesty.1 added c.in-Ok.ensures.next
     (λ honest given lists segment on is same. c.in-Ok.ensures.on_disk honest given lists segment on is (c.deref.ensures.value ∙ for.prepared.bytes_are ∙ ap (segment_in (form_in c.args.prepared.entry.sums)) (sym same)))
     c.in-Ok.ensures.elsewhere (subst (λ x. Forgets (is_in x) c.self.inside.cache c.forget.new.self) c.extent.ensures c.forget.ensures) (subst (λ x. Forgets (is_in x) c.forget.new.self c.forget-in-Ok.new.self) c.extent-in-Ok.ensures c.forget-in-Ok.ensures)
-    c.add.ensures in
+    (ap (λ (x : StoreRows). x.lists) c.add.ensures) in
     rw (← c.self.view_is) (record {
       closed = λ needs. absurd (false≢true (sym was_open ∙ needs));
-      any_moment = λ honest still. leaves_added _ _ _ c.self.inside.cache _ c.self.inside.directory c.args.prepared.directory c.args.prepared.entry _ c.args.prepared.index _ c.self.invariant.0 honest still added for.apart (ap (λ (l : DirectoryValue). l.imports) for.prepared.directory_is) (ap (λ (l : DirectoryValue). l.layout) for.prepared.directory_is)
+      any_moment = λ honest still. leaves_added _ _ _ c.self.inside.cache _ c.self.inside.directory c.args.prepared.directory c.args.prepared.entry _ c.args.prepared.index.rows _ c.self.invariant.0 honest still added for.apart (ap (λ (l : DirectoryValue). l.imports) for.prepared.directory_is) (ap (λ (l : DirectoryValue). l.layout) for.prepared.directory_is)
           (λ honest given lists segment on is same. c.in-Ok.ensures.any_moment honest given lists segment on is (c.deref.ensures.value ∙ for.prepared.bytes_are ∙ ap (segment_in (form_in c.args.prepared.entry.sums)) (sym same)));
       acknowledged = λ honest still. record { open_still = still; each = held_stands _ _ _ _ _ _ _ held (c.add_segment.ensures.meters.honesty.0 honest) still };
     })
@@ -82,10 +85,10 @@ pub returns-in-Err-clause-crash : goal.returns-in-Err-clause-crash
 returns-in-Err-clause-crash g c =
     let was_open = subst (λ (s : StoreValue g.row.D.Denot). s.needs_reopen ≡ false) (sym c.self.view_is) c.requires.still in
     let for = subst (λ (s : StoreValue g.row.D.Denot). IsPreparedFor s c.args.prepared) (sym c.self.view_is) c.requires.prepared in
-    let added = is_added _ c.self.inside.directory c.self.inside.index c.args.prepared c.self.invariant.0.kept refl refl refl refl refl for in
+    let added = is_added _ c.self.inside.directory c.self.inside.index.lists c.args.prepared c.self.invariant.0.kept refl refl refl refl refl for in
     rw (← c.self.view_is) (record {
       closed = λ needs. absurd (false≢true (sym was_open ∙ needs));
-      any_moment = λ honest still. leaves_added _ _ _ c.self.inside.cache _ c.self.inside.directory c.args.prepared.directory c.args.prepared.entry _ c.args.prepared.index _ c.self.invariant.0 honest still added for.apart (ap (λ (l : DirectoryValue). l.imports) for.prepared.directory_is) (ap (λ (l : DirectoryValue). l.layout) for.prepared.directory_is)
+      any_moment = λ honest still. leaves_added _ _ _ c.self.inside.cache _ c.self.inside.directory c.args.prepared.directory c.args.prepared.entry _ c.args.prepared.index.rows _ c.self.invariant.0 honest still added for.apart (ap (λ (l : DirectoryValue). l.imports) for.prepared.directory_is) (ap (λ (l : DirectoryValue). l.layout) for.prepared.directory_is)
           (λ honest given lists segment on is same. c.in-Err.ensures.any_moment honest given lists segment on is (c.deref.ensures.value ∙ for.prepared.bytes_are ∙ ap (segment_in (form_in c.args.prepared.entry.sums)) (sym same)));
       acknowledged = λ honest still. absurd (false≢true (sym still));
     })
@@ -113,3 +116,8 @@ returns-in-Err-clause-meters g c =
       drops = tt;
       keeps = refl;
     })
+
+pub add-requires-clause-words : goal.add-requires-clause-words
+add-requires-clause-words g c =
+    let for = subst (λ (s : StoreValue g.row.D.Denot). IsPreparedFor s c.args.prepared) (sym c.self.view_is) c.requires.prepared in
+    for.words

@@ -16,7 +16,8 @@ pub invariant_of-self : goal.invariant_of-self
 invariant_of-self g c =
     let same = subst (λ (s : StoreValue g.row.D.Denot). IsRepeated (directory_of s) c.args.next) (sym c.self.view_is) c.requires.next in (
       held_repeated _ (g.D.Disk.view c.publish_directory.new.disk).is_honest _ (g.D.Disk.view c.publish_directory.new.disk).moments.state c.self.inside.cache c.forget.new.self _ c.in-Ok.slot c.self.inside.directory c.args.next _ _ c.self.invariant.0 c.publish_directory.ensures.meters.honesty.1 (subst IsListing c.next.view_is c.next.invariant.is) same c.in-Ok.ensures.next c.in-Ok.ensures.on_disk c.in-Ok.ensures.elsewhere (subst (λ x. Forgets (is_in x) c.self.inside.cache c.forget.new.self) c.extent.ensures c.forget.ensures),
-      merge_repeated _ (g.D.Disk.view c.publish_directory.new.disk).is_honest _ (g.D.Disk.view c.publish_directory.new.disk).moments.state.now (other c.self.inside.slot) c.self.inside.directory c.args.next c.self.inside.index c.self.inside.merge c.self.inside.needs_reopen c.self.invariant.1 c.publish_directory.ensures.meters.honesty.1 same.entries same.comes.layout c.in-Ok.ensures.elsewhere,
+      merge_repeated _ (g.D.Disk.view c.publish_directory.new.disk).is_honest _ (g.D.Disk.view c.publish_directory.new.disk).moments.state.now (other c.self.inside.slot) c.self.inside.directory c.args.next c.self.inside.index.lists c.self.inside.merge c.self.inside.needs_reopen c.self.invariant.1 c.publish_directory.ensures.meters.honesty.1 same.entries same.comes.layout c.in-Ok.ensures.elsewhere,
+      c.self.invariant.2,
     )
 
 pub returns-in-Ok-clause-elsewhere : goal.returns-in-Ok-clause-elsewhere

@@ -10,8 +10,9 @@ pub invariant_of-self : goal.invariant_of-self
 invariant_of-self g c =
     let r = c.new-reader.ensures in
     let now = c.rows_after-read.new.reader in
-    held_after g.D.Disk.view _ _ _ _ _ _ _ _ _ _ c.self.invariant.0 r.disk r.cache r.entries r.shown c.self.inside.merge now.disk.now now.cache.now now.entries.now now.shown.now c.self.invariant.1 c.rows_after-read.ensures.stays.0
-    (g.met.D.Disk.now_is_image c.self.inside.disk) c.rows_after-read.ensures.answer.reader.honesty
+    let both = held_after g.D.Disk.view _ _ _ _ _ _ _ _ _ _ c.self.invariant.0 r.disk r.cache r.entries r.shown c.self.inside.merge now.disk.now now.cache.now now.entries.now now.shown.now c.self.invariant.1 c.rows_after-read.ensures.stays.0
+    (g.met.D.Disk.now_is_image c.self.inside.disk) c.rows_after-read.ensures.answer.reader.honesty in
+    (both.0, both.1, c.self.invariant.2)
 
 pub returns-clause-answer : goal.returns-clause-answer
 returns-clause-answer g c = rw (← c.self.view_is) (
@@ -19,7 +20,7 @@ returns-clause-answer g c = rw (← c.self.view_is) (
     let e = c.rows_after-read.ensures in
     let a = c.answered.ensures in
     rows_answered g.D.Disk.view row_items (λ rows. rows_after c.args.after c.args.limit (rows_at c.args.pin rows))
-    (Lists c.places.result.now) _ c.answered.new.self c.self.inside.index c.new-reader.result.shown.now c.new-reader.result.entries.now
+    (Lists c.places.result.now) _ c.answered.new.self c.self.inside.index.lists c.new-reader.result.shown.now c.new-reader.result.entries.now
     c.new-reader.result.disk.now c.rows_after-read.new.reader.disk.now c.new-reader.result.cache.now c.rows_after-read.new.reader.cache.now c.rows_after-read.result c.answered.result
     false (ap (λ e. e.now) e.stays.3) refl c.if-self.false r.disk r.cache r.entries r.shown
     c.places.ensures (λ up. reader_honest g.D.Disk.view _ _ _ _ _ _ _ _ _ _ c.self.invariant.0 r.disk r.cache r.entries r.shown up c.if-self.false (g.met.D.Disk.now_is_image c.self.inside.disk up))

@@ -14,16 +14,17 @@ trim-requires g c = omega (arith, at_least_four (taken c.entries.result.now c.re
 pub overflow_cast-end : goal.overflow_cast-end
 overflow_cast-end g c =
     let end = end_is c.self.inside.directory c.self.inside.merge c.entries.result.now c.reserved.result c.end_of-end.result c.entries.ensures.entries c.reserved.ensures c.end_of-end.ensures.end in
-    let limit = end_limit c.self.inside.directory c.self.inside.index c.self.inside.merge c.self.invariant.0.kept.listing c.self.invariant.1.merging in
+    let limit = end_limit c.self.inside.directory c.self.inside.index.lists c.self.inside.merge c.self.invariant.0.kept.listing c.self.invariant.1.merging in
     omega (arith, end, limit)
 
 pub invariant_of-self : goal.invariant_of-self
 invariant_of-self g c =
     let end = end_is c.self.inside.directory c.self.inside.merge c.entries.result.now c.reserved.result c.end_of-end.result c.entries.ensures.entries c.reserved.ensures c.end_of-end.ensures.end in
     let below = kept_below c.self.inside.directory c.self.inside.merge c.end_of-end.result end in (
-      trimmed_held _ (g.D.Disk.view c.trim.new.disk).is_honest _ (g.D.Disk.view c.trim.new.disk).moments.state c.self.inside.cache c.forget_from.new.self c.self.inside.slot c.self.inside.directory c.self.inside.index c.self.inside.needs_reopen c.end_of-end.result c.self.invariant.0 c.trim.ensures.meters.honesty.1
-          (λ honest on. c.trim.ensures.on_disk honest c.self.inside.slot c.self.inside.directory c.self.inside.index on below) c.in-Ok.ensures.now c.forget_from.ensures,
-      trimmed_merge _ (g.D.Disk.view c.trim.new.disk).is_honest _ (g.D.Disk.view c.trim.new.disk).moments.state.now c.self.inside.directory c.self.inside.index c.self.inside.merge c.self.inside.needs_reopen c.end_of-end.result c.self.invariant.1 c.trim.ensures.meters.honesty.1 end c.in-Ok.ensures.now,
+      trimmed_held _ (g.D.Disk.view c.trim.new.disk).is_honest _ (g.D.Disk.view c.trim.new.disk).moments.state c.self.inside.cache c.forget_from.new.self c.self.inside.slot c.self.inside.directory c.self.inside.index.lists c.self.inside.needs_reopen c.end_of-end.result c.self.invariant.0 c.trim.ensures.meters.honesty.1
+          (λ honest on. c.trim.ensures.on_disk honest c.self.inside.slot c.self.inside.directory c.self.inside.index.lists on below) c.in-Ok.ensures.now c.forget_from.ensures,
+      trimmed_merge _ (g.D.Disk.view c.trim.new.disk).is_honest _ (g.D.Disk.view c.trim.new.disk).moments.state.now c.self.inside.directory c.self.inside.index.lists c.self.inside.merge c.self.inside.needs_reopen c.end_of-end.result c.self.invariant.1 c.trim.ensures.meters.honesty.1 end c.in-Ok.ensures.now,
+      c.self.invariant.2,
     )
 
 pub returns-then-self-clause-crash : goal.returns-then-self-clause-crash
@@ -38,11 +39,11 @@ pub returns-in-Ok-clause-crash : goal.returns-in-Ok-clause-crash
 returns-in-Ok-clause-crash g c =
     let end = end_is c.self.inside.directory c.self.inside.merge c.entries.result.now c.reserved.result c.end_of-end.result c.entries.ensures.entries c.reserved.ensures c.end_of-end.ensures.end in
     let below = kept_below c.self.inside.directory c.self.inside.merge c.end_of-end.result end in
-    let held = trimmed_held _ (g.D.Disk.view c.trim.new.disk).is_honest _ (g.D.Disk.view c.trim.new.disk).moments.state c.self.inside.cache c.forget_from.new.self c.self.inside.slot c.self.inside.directory c.self.inside.index c.self.inside.needs_reopen c.end_of-end.result c.self.invariant.0 c.trim.ensures.meters.honesty.1
-    (λ honest on. c.trim.ensures.on_disk honest c.self.inside.slot c.self.inside.directory c.self.inside.index on below) c.in-Ok.ensures.now c.forget_from.ensures in
+    let held = trimmed_held _ (g.D.Disk.view c.trim.new.disk).is_honest _ (g.D.Disk.view c.trim.new.disk).moments.state c.self.inside.cache c.forget_from.new.self c.self.inside.slot c.self.inside.directory c.self.inside.index.lists c.self.inside.needs_reopen c.end_of-end.result c.self.invariant.0 c.trim.ensures.meters.honesty.1
+    (λ honest on. c.trim.ensures.on_disk honest c.self.inside.slot c.self.inside.directory c.self.inside.index.lists on below) c.in-Ok.ensures.now c.forget_from.ensures in
     rw (← c.self.view_is) (record {
       closed = λ needs. absurd (false≢true (sym c.if-self.false ∙ needs));
-      any_moment = λ honest still. c.trim.ensures.any_moment honest c.self.inside.slot c.self.inside.directory c.self.inside.index (c.self.invariant.0.on_disk honest still) below;
+      any_moment = λ honest still. c.trim.ensures.any_moment honest c.self.inside.slot c.self.inside.directory c.self.inside.index.lists (c.self.invariant.0.on_disk honest still) below;
       acknowledged = λ honest still. record { open_still = still; each = held_stands _ _ _ _ _ _ _ held (c.trim.ensures.meters.honesty.0 honest) still };
     })
 
@@ -52,7 +53,7 @@ returns-in-Err-clause-crash g c =
     let below = kept_below c.self.inside.directory c.self.inside.merge c.end_of-end.result end in
     rw (← c.self.view_is) (record {
       closed = λ needs. absurd (false≢true (sym c.if-self.false ∙ needs));
-      any_moment = λ honest still. c.trim.ensures.any_moment honest c.self.inside.slot c.self.inside.directory c.self.inside.index (c.self.invariant.0.on_disk honest still) below;
+      any_moment = λ honest still. c.trim.ensures.any_moment honest c.self.inside.slot c.self.inside.directory c.self.inside.index.lists (c.self.invariant.0.on_disk honest still) below;
       acknowledged = λ honest still. absurd (false≢true (sym still));
     })
 

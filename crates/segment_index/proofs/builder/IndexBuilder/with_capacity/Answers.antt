@@ -3,4 +3,4 @@ use Rattle.segment_index.proofs.Built.{none_built}
 use Rattle.segment_index.proofs.builder.IndexBuilder.with_capacity.Goals as goal
 
 pub invariant_of-result : goal.invariant_of-result
-invariant_of-result c = none_built c.new-3.result c.reserve.new.self c.new.result c.new-2.result c.new-3.ensures (c.reserve.ensures ∙ c.new-places.ensures) c.new.ensures c.new-2.ensures
+invariant_of-result c = none_built c.args.words c.new-4.result c.reserve.new.self c.new.result c.new-2.result c.new-3.result c.new-4.ensures (c.reserve.ensures ∙ c.new-places.ensures) c.new.ensures c.new-2.ensures c.new-3.ensures

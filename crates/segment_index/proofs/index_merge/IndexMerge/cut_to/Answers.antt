@@ -8,4 +8,4 @@ invariant_of-self c =
     let m = c.self.inside in
     let at = subst (λ (r : OutputRows). IsMarkOf (record r { taken = c.args.mark.rows }) c.args.mark) (sym c.self.view_is) c.requires.mark in
     let fewer = subst (λ (r : OutputRows). c.args.mark.rows ≤ r.taken) (sym c.self.view_is) c.requires.rows in
-    cut_output m.a m.b m.at c.args.mark m.places c.cut_to.new.self m.postings c.self.invariant m.at.progress.a_within m.at.progress.b_within c.args.mark.progress.a_within c.args.mark.progress.b_within fewer at c.cut_to.ensures
+    cut_output m.words m.a m.b m.at c.args.mark m.places c.cut_to.new.self m.postings c.self.invariant m.at.progress.a_within m.at.progress.b_within c.args.mark.progress.a_within c.args.mark.progress.b_within fewer at c.cut_to.ensures

@@ -1,0 +1,12 @@
+pub use Rattle.word_model.specs.Words
+pub use Rattle.segment.specs.Standing
+pub use Rattle.as_of_index.specs.Places
+pub use Rattle.as_of_index.specs.Current
+pub use Rattle.as_of_index.specs.Chosen
+pub use Rattle.as_of_index.specs.Postings
+pub use Rattle.as_of_index.specs.Numbers
+pub use Rattle.term_prefix.specs.Terms
+pub use Rattle.term_prefix.specs.Merged
+pub mod Posted
+pub mod Laid
+pub mod Private
