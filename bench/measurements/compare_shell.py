@@ -68,38 +68,38 @@ Rows = dict[str, list[list[str]]]
 Asked = tuple[str, list[str]]
 Forms = Sequence[tuple[str, int, list[str]]]
 
-# What is asked: a title, how many lines, and their forms in turn. `{D4}` is what a row of kind D
+# What is asked: a title, how many lines, and their forms in turn. `{D[4]}` is what a row of kind D
 # that is drawn has in its column 4. Those that are asked as of the first import, too:
 FIRST: Forms = (
     ("10,000 rows of any kind", 10_000, ["GET {any} {date}"]),
     ("10,000 histories", 10_000, ["HISTORY {any}"]),
-    ("1,000 times CHILDREN", 1_000, ["CHILDREN {R5} {date}"]),
-    ("1,000 times REPLACED", 1_000, ["REPLACED {A5} {date}"]),
-    ("1,000 times ABOUT D", 1_000, ["ABOUT D {D4} {date}"]),
-    ("1,000 times ABOUT R", 1_000, ["ABOUT R {R4} {date}"]),
-    ("1,000 pages of 100", 1_000, ["PAGE C {date} {C0} 100"]))
+    ("1,000 times CHILDREN", 1_000, ["CHILDREN {R[5]} {date}"]),
+    ("1,000 times REPLACED", 1_000, ["REPLACED {A[5]} {date}"]),
+    ("1,000 times ABOUT D", 1_000, ["ABOUT D {D[4]} {date}"]),
+    ("1,000 times ABOUT R", 1_000, ["ABOUT R {R[4]} {date}"]),
+    ("1,000 pages of 100", 1_000, ["PAGE C {date} {C[0]} 100"]))
 # Further ones, those of an audit, and what is asked once the concepts are a tree.
 FURTHER: Forms = (
-    ("100,000 concepts", 100_000, ["GET C {C0} {date}"]),
-    ("100,000 descriptions", 100_000, ["GET D {D0} {date}"]),
-    ("1,000 pages of 1,000", 1_000, ["PAGE C {date} {C0} 1000"]),
+    ("100,000 concepts", 100_000, ["GET C {C[0]} {date}"]),
+    ("100,000 descriptions", 100_000, ["GET D {D[0]} {date}"]),
+    ("1,000 pages of 1,000", 1_000, ["PAGE C {date} {C[0]} 1000"]),
     ("100 searches, limit 1,000", 100, ["TERMS {date} 1000 {word}"]),
-    ("the descriptions of 10,000 concepts", 10_000, ["ABOUT D {D4} {date}"]),
-    ("the relationships of 10,000 concepts", 10_000, ["ABOUT R {R4} {date}"]))
+    ("the descriptions of 10,000 concepts", 10_000, ["ABOUT D {D[4]} {date}"]),
+    ("the relationships of 10,000 concepts", 10_000, ["ABOUT R {R[4]} {date}"]))
 AUDITS: Forms = (
     *(("1,000 pages of 1,000 " + title, 1_000, [
-        "DELTA %s %s {%s0} 1000" % (kind, days, kind) for kind in "CDR"])
+        "DELTA %s %s {%s[0]} 1000" % (kind, days, kind) for kind in "CDR"])
       for days, title in (("20250131 20261231", "of the last releases"),
                           ("20120731 20191231", "of seven years"))),
-    ("the descriptions that 10,000 concepts ever had", 10_000, ["TIMELINE D {D4}"]),
-    ("the relationships that 10,000 concepts ever had", 10_000, ["TIMELINE R {R4}"]),
-    ("what 10,000 components replace", 10_000, ["REPLACES {A6} {date}"]),
-    ("all concepts above 1,000 concepts", 1_000, ["ANCESTORS {C0} {date}"]),
-    ("all concepts below 1,000 concepts", 1_000, ["DESCENDANTS {C0} {date}"]),
+    ("the descriptions that 10,000 concepts ever had", 10_000, ["TIMELINE D {D[4]}"]),
+    ("the relationships that 10,000 concepts ever had", 10_000, ["TIMELINE R {R[4]}"]),
+    ("what 10,000 components replace", 10_000, ["REPLACES {A[6]} {date}"]),
+    ("all concepts above 1,000 concepts", 1_000, ["ANCESTORS {C[0]} {date}"]),
+    ("all concepts below 1,000 concepts", 1_000, ["DESCENDANTS {C[0]} {date}"]),
     ("the dates, 10,000 times", 10_000, ["DATES"]))
 IN_A_TREE: Forms = (
     ("all concepts below the root, 10 times", 10, ["DESCENDANTS %d 20261231" % rf2.ROOT]),
-    ("all concepts above 10,000 concepts, in a tree", 10_000, ["ANCESTORS {C0} 20261231"]))
+    ("all concepts above 10,000 concepts, in a tree", 10_000, ["ANCESTORS {C[0]} 20261231"]))
 
 
 def draw_rows(folder: str, chance: random.Random) -> tuple[int, Rows]:
@@ -245,16 +245,19 @@ class Questions:
         words = (row[7].split(" ")[0] for row in rows["D"])
         self.words = [word for word in words if is_plain(word)]
 
-    def __getitem__(self, name: str) -> str:
-        """What stands for a name in a form."""
+    def __getitem__(self, name: str) -> str | list[str]:
+        """What stands for a name in a form: a text, or the columns of a row that is drawn."""
         if name == "date":
             return self.chance.choice(DAYS)
         if name == "word":
             return self.chance.choice(self.words).upper()
         if name == "any":
             kind = self.chance.choice("CDVRA")
-            return "%s %s" % (kind, self[kind + "0"])
-        return self.chance.choice(self.rows[name[0]])[int(name[1:])]
+            return "%s %s" % (kind, self.row(kind)[0])
+        return self.row(name)
+
+    def row(self, kind: str) -> list[str]:
+        return self.chance.choice(self.rows[kind])
 
     def of(self, forms: Forms) -> Iterator[Asked]:
         for title, count, texts in forms:
@@ -263,7 +266,7 @@ class Questions:
     def of_each_kind(self) -> Iterator[Asked]:
         """The questions that are asked as of the first import, too."""
         yield from self.of(FIRST)
-        terms = filter(is_plain, (self["D7"] for _ in range(1000)))
+        terms = filter(is_plain, (self.row("D")[7] for _ in range(1000)))
         yield "searches of two or three words", [
             "TERMS %s 10 %s" % (self["date"], " ".join(term.split(" ")[:number % 2 + 2]).upper())
             for number, term in enumerate(terms)]
