@@ -14,7 +14,7 @@ from ..logs import log, tell
 from .checking import without_notes
 from .digests import Digests
 from .lines import (
-    LINE_LIMIT, NOT_A_QUESTION, QUESTION, TOO_LONG, Lines, Sort, date_in, pin_after, without_cr)
+    LINE_LIMIT, NOT_A_QUESTION, QUESTION, TOO_LONG, Lines, Sort, date_after, pin_after, without_cr)
 from .program import Program, ProgramEndedError
 from .store import Store
 
@@ -134,8 +134,8 @@ class Client(asyncio.Protocol):
         most = min(room, LINES_A_CLIENT - self.flying)
         while lines and lines[0][0] is QUESTION and len(found) < most:
             line = lines.popleft()[1]
-            if not self.asks_ahead and date_in(line) > self.hub.today:
-                self.note_date(date_in(line))
+            if not self.asks_ahead and (date := date_after(self.hub.today, line)):
+                self.note_date(date)
             found.append(before + line + b"\n")
         self.flying += len(found)
         return found

@@ -17,9 +17,9 @@ DIGEST = re.compile(rb"(?:AT ([0-9]{1,10}) )?DIGEST")
 PLAIN = QUESTIONS - {b"AT", b"DIGEST"}
 # Which of a question's words is the date that it asks about, its own word being the first one.
 DATES = {
-    b"TERMS": 1, b"SEARCH": 1, b"CHILDREN": 2, b"ANCESTORS": 2, b"DESCENDANTS": 2, b"CALLED": 2,
-    b"REPLACED": 2, b"REPLACES": 2, b"PAGE": 2, b"MEMBERS": 2, b"VALUES": 2, b"GET": 3, b"ABOUT": 3,
-    b"SOURCES": 3, b"DELTA": 3}
+    b"TERMS": 1, b"WORDS": 1, b"SEARCH": 1, b"CHILDREN": 2, b"ANCESTORS": 2, b"DESCENDANTS": 2,
+    b"CALLED": 2, b"REPLACED": 2, b"REPLACES": 2, b"PAGE": 2, b"MEMBERS": 2, b"VALUES": 2,
+    b"GET": 3, b"ABOUT": 3, b"SOURCES": 3, b"DELTA": 3}
 DATE_DIGITS = 8
 # Lines that the hub carries out itself.
 BACKUP = b"BACKUP"
@@ -74,14 +74,16 @@ def kind_of(line: bytes) -> str:
     return KINDS.get(word, OTHER)
 
 
-def date_in(line: bytes) -> bytes:
-    """The date that a question asks about; nothing where it asks about none."""
+def date_after(day: bytes, line: bytes) -> bytes:
+    """The date that a question asks about, if it is after this day; otherwise nothing."""
     words = line.split(b" ", 6)
     if words[0] == b"AT":
-        words = words[2:]
-    place = DATES.get(words[0], 0) if words else 0
-    date = without_cr(words[place]) if 0 < place < len(words) else b""
-    return date if len(date) == DATE_DIGITS and date.isdigit() else b""
+        words = words[2:] or words
+    place = DATES.get(words[0])
+    if place is None or place >= len(words) or words[place] <= day:
+        return b""
+    date = without_cr(words[place])
+    return date if len(date) == DATE_DIGITS and date.isdigit() and date > day else b""
 
 
 def pin_named(line: bytes) -> Optional[bytes]:
