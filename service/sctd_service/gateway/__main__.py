@@ -12,6 +12,7 @@ front of it.
 
 import argparse
 import asyncio
+import gc
 import contextlib
 import re
 import signal
@@ -137,6 +138,8 @@ async def serve(found: argparse.Namespace) -> int:
     end = asyncio.Event()
     for number in (signal.SIGTERM, signal.SIGINT):
         asyncio.get_running_loop().add_signal_handler(number, end.set)
+    # What is made by now stays: a collection of garbage needn't look at it, which took some 25 ms.
+    gc.freeze()
     print("OK ready", flush=True)
     await end.wait()
     listens.close()

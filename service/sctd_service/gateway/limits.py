@@ -32,7 +32,7 @@ SCTD_SECONDS = 30.0
 PACKED_BYTES = 1 << 10
 PACKED_APART_BYTES = 64 << 10
 # How much of an answer is made at once, before other requests have their turn.
-SLICE_CONCEPTS = 50
+SLICE_CONCEPTS = 25
 # How long /health may take, whatever hangs.
 HEALTH_SECONDS = 2.0
 # For how long a hub is waited for at the start, and is asked whether its store has rows of the
