@@ -134,8 +134,9 @@ def test_days_to_come(hub: Hub) -> None:
     for line in ("AT 1 DELTA C 20200131 20991231 - 1", "GET C 1000004 20991230"):
         assert client.ask(line)[-1].startswith("END ")
     other.ask("CHILDREN 1000004 20991230\r")
+    hub.client().ask("WORDS 20991229 - 0 1 str")
     assert hub.logged() == [f"user {os.getuid()} asks about {day}, which is yet to come"
-                            for day in ("20991231", "20991230")]
+                            for day in ("20991231", "20991230", "20991229")]
 
 
 def test_pins_apart(hub: Hub) -> None:
