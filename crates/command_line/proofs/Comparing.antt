@@ -50,6 +50,12 @@ popped R (x ∷ []) (z ∷ zs) (Some y) (Some w) is there zip =
     let long = ap length is in let more = length-append zs (y ∷ []) in absurd (omega (arith, long, more))
 popped R (x ∷ x' ∷ xs) rest last (Some w) is there zip = absurd zip.1
 
+-- what calls keep whether they are answered or fail
+pub kept_failing : {K : Type 0} (faulty : PackageFault → Type 0) (Stays : Type 0) (Fails : ReadFault → Type 0) → (Stays → K) → ((e : ReadFault) → Fails e → K) → (fault : CompareFault) → IsFailure faulty Stays Fails fault → K
+kept_failing faulty Stays Fails stays fails comparefault.OutOfMemory how = stays how
+kept_failing faulty Stays Fails stays fails (comparefault.Package fault) how = stays how.1
+kept_failing faulty Stays Fails stays fails (comparefault.Shown e) how = fails e how
+
 module _ {D : Type 0} (view : D → DiskView) where
   -- ---- questions
 
@@ -70,11 +76,11 @@ module _ {D : Type 0} (view : D → DiskView) where
   failure_of _ old new read undamaged counts = absurd read
 
   pub answered : {T : Type 0} (order : Bool) (rows_of : T → List RowValue) (wanted : List RowValue → List RowValue) (x : T) (old new : StoreValue D) → order ≡ false → IsRowsQueryBy order (Ok x) rows_of wanted old.history.imports view old new → IsAsked view wanted (Ok x) rows_of old new
-  answered {T} order rows_of wanted x old new plain was =
-      let asked = subst (λ (o : Bool). IsRowsQueryBy o {T} {D} (Ok x) rows_of wanted old.history.imports view old new) plain was in record {
+  answered {T = T} order rows_of wanted x old new plain was =
+      let asked = subst (λ (o : Bool). IsRowsQueryBy {T = T} {D = D} o (Ok x) rows_of wanted old.history.imports view old new) plain was in record {
         found = may_be old (rows_of x) (wanted (rows_at old.history.imports old.history.rows)) asked.stored asked.found;
         stays = record {
-          only = queried view (Ok {T} {Refusal} x) old new asked.query;
+          only = queried view (Ok x) old new asked.query;
           history = asked.query.read.history;
           open_still = asked.query.read.open_still ∙ sym asked.query.read.open_before;
           steady = asked.steady;
@@ -83,11 +89,11 @@ module _ {D : Type 0} (view : D → DiskView) where
       }
 
   pub refused : {T : Type 0} (order : Bool) (rows_of : T → List RowValue) (wanted : List RowValue → List RowValue) (e : Refusal) (old new : StoreValue D) → IsRowsQueryBy order (Err e) rows_of wanted old.history.imports view old new → IsAsked view wanted (Err (read_fault_of e)) rows_of old new
-  refused {T} order rows_of wanted e old new asked = record {
+  refused {T = T} order rows_of wanted e old new asked = record {
     found = tt;
     stays = tt;
     fails = record {
-      only = queried view (Err {T} {Refusal} e) old new asked.query;
+      only = queried view (Err e) old new asked.query;
       cause = failure_of e old new asked.query.read.0 asked.query.undamaged asked.query.failures;
     };
   }

@@ -3,5 +3,5 @@ mod Merged
 pub mod OnlyRead
 pub mod Told
 pub mod Digested
-pub mod ShownAt
+
 mod Comparing

@@ -56,8 +56,8 @@ impl<D: Disk> Shown for StoreAt<'_, D> {
     ghost use Rattle.command_line.specs.Verifying.{rows_shown, MayBeReadFor};
     ghost use Rattle.command_line.specs.Private.Verifying.{OnlyAsked, HasFailed};
     ghost use Rattle.std.proofs.Common.{refl, ◌∙◌};
-    ghost use Rattle.command_line.proofs.ShownAt.{exactly, keyed_so, same_rows, steady_so};
-    ghost use Rattle.command_line.proofs.ShownAt.{still, asked_on, failed_on};
+    ghost use Rattle.command_line.specs.Private.ShownAt.{exactly, keyed_so, same_rows, steady_so};
+    ghost use Rattle.command_line.specs.Private.ShownAt.{still, asked_on, failed_on};
 
     ghost at_date = { λ s. rows_shown s.store.now s.date };
 

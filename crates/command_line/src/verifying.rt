@@ -44,7 +44,7 @@ pub(crate) fn verify<D: Disk, H: Host, O: Write, E: Write>(
     faults: &mut E,
 ) -> Result<Ending, ServeFault>
     requires { IsReady store.old }
-    ensures { IsVerifyTold D.view asked.list store.old store.new.disk
+    ensures { IsVerifyTold D.view asked.entry.list store.old store.new.disk
         (report result (O.contents output.old) (O.contents output.new)) }
 {
     let scope = store.scope();

@@ -12,7 +12,7 @@ returns-then-is_whole g c =
     told_or_weaker (λ told. Tells told (Ok (AllDone (words_of c.args.found.now.counts)))) (IsComparisonTold c.args.found.now) _
     (λ told. inl (c.is_whole.ensures.0 c.if-is_whole.true, told)) c.write_counts.ensures
 
-pub returns-else-is_whole : goal.returns-else-is_whole
-returns-else-is_whole g c =
+pub returns : goal.returns
+returns g c =
     told_or_weaker (λ told. IsWritten Differs (differs_line c.args.found.now) told.ended told.old told.new) (IsComparisonTold c.args.found.now) _
     (λ told. inr (λ whole. both_ways c.is_whole.result c.if-is_whole.false (c.is_whole.ensures.1 whole), told)) c.write_numbers.ensures
