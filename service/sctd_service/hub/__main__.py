@@ -18,18 +18,20 @@ The program answers one line after the other, and is sent the next ones meanwhil
 client. An import goes alone and keeps the others waiting; a DIGEST doesn't, of which the hub
 hashes pages of rows. `WATCH` is answered `OK` and the number of imports, and the client is told so
 again with each import, before that is answered. `METRICS` is answered with what a monitor counts,
-each line of Prometheus' text as a row. `BACKUP PATH`, on the socket of `--socket`, copies the store
-while questions are answered. When more than N segments stand (100 if not said), the hub merges in
-short steps between the clients' lines; where the store is full, an import waits for a merge.
+each line of Prometheus' text as a row. On the socket of `--socket`, `BACKUP PATH` copies the store
+while questions are answered, and `CHECK NAME` and `VERIFY NAME` are carried out on a copy,
+FILE.checked: what the import of a release would be answered, and in what the store differs from the
+Snapshot of a package. When more than N segments stand (100 if not said), the hub merges in short
+steps between the clients' lines; where the store is full, an import waits for a merge.
 
 Once the store is open, the hub prints `OK ready` (and tells systemd, where that started it). An
 opening that is refused ends the hub with the `ERR` line and the program's status. The hub ends with
 status 1 when the program ends, after the program answered `ERR 2 DiskFault`, and when another file
 takes the place of FILE: what started the hub should then start it again. SIGTERM and SIGINT end it
 with status 0, after the lines that are on their way. Standard error has a line for each import,
-published merge and backup, for each line that took over a second, and for the first question of a
-connection about a day that is yet to come. Once somebody is answered `ERR 8 Damaged`, it says so,
-STATUS ends with `Damaged`, and the hub's status at its end isn't 0.
+check, comparison, published merge and backup, for each line that took over a second, and for the
+first question of a connection about a day that is yet to come. Once somebody is answered
+`ERR 8 Damaged`, it says so, STATUS ends with `Damaged`, and the hub's status at its end isn't 0.
 
 On the socket of `--questions` a user has at most so many connections as `--connections-a-user`
 says (250 if it isn't said), and one that says nothing for ten minutes is closed. The socket that an
@@ -64,7 +66,7 @@ import resource
 import signal
 import socket
 import sys
-from typing import Any, Optional
+from typing import Any
 
 from .. import settings, sockets
 from ..logs import log, tell
@@ -80,7 +82,6 @@ MOST_A_USER = 250
 
 
 def tell_systemd() -> None:
-    """That the hub is ready, where systemd wants to know."""
     name = os.environ.get("NOTIFY_SOCKET")
     if name:
         with socket.socket(socket.AF_UNIX, socket.SOCK_DGRAM) as telling:
@@ -101,7 +102,7 @@ def is_clear(path: str) -> bool:
 class Listener:
     """A socket of the hub's, with its rights: its owner's alone, or also a group's."""
 
-    def __init__(self, path: str, may_change: bool, group: Optional[int] = None) -> None:
+    def __init__(self, path: str, may_change: bool, group: int | None = None) -> None:
         self.path, self.may_change = path, may_change
         self.socket = socket.socket(socket.AF_UNIX)
         before = os.umask(0o177)
@@ -114,13 +115,8 @@ class Listener:
             os.chmod(path, 0o660)
         self.identity = sockets.identity_of(path)
 
-    def remove(self) -> None:
-        """Removes the socket's name, if it is still that of this socket."""
-        sockets.remove(self.path, self.identity)
-
 
 async def serve_clients(hub: Hub, listeners: list[Listener]) -> int:
-    """Serves all clients, and answers the status to end with."""
     for number in (signal.SIGTERM, signal.SIGINT):
         asyncio.get_running_loop().add_signal_handler(number, hub.end, 0)
     servers = [
@@ -139,7 +135,7 @@ async def serve_clients(hub: Hub, listeners: list[Listener]) -> int:
         tell("hub: the program has ended")
     for server, listener in zip(servers, listeners):
         server.close()
-        listener.remove()
+        sockets.remove(listener.path, listener.identity)
     await hub.stop()
     for duty in duties:
         duty.cancel()
