@@ -95,9 +95,12 @@ def unquoted(line: Line, text: str) -> bytes:
 
 
 def sort_of(line: Line) -> rf2.Sort:
-    """The sort of the files of a kind, as `concept`, or `member+2` with two further columns."""
+    """The sort of the files of a kind, as `concept`, or `member+2` with two further columns, or of
+    this name, as `Language`."""
     if line.word in SORTS:
         return rf2.BASIC_SORTS[SORTS[line.word]]
+    if line.word in rf2.FURTHER_SORTS:
+        return rf2.FURTHER_SORTS[line.word]
     kind, _, further = line.word.partition("+")
     if kind != "member":
         raise Fault(line.number, "no word of a release")

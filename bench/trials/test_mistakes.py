@@ -50,8 +50,9 @@ HOLDER = re.compile(r"in use by another process, whose id is (\d+)\n$")
 OTHER_USER = 65534
 # A row of a language reference set, and one of a text definition, of the root concept.
 LANGUAGE = "der2_cRefset_LanguageDelta-en_INT_20200131.txt"
-LANGUAGE_ROWS = (
-    "id\teffectiveTime\tactive\tmoduleId\trefsetId\treferencedComponentId\tacceptabilityId\n"
+LANGUAGE_COLUMNS = (
+    "id\teffectiveTime\tactive\tmoduleId\trefsetId\treferencedComponentId\tacceptabilityId\n")
+LANGUAGE_ROWS = LANGUAGE_COLUMNS + (
     "0b6a0c2e-5d0f-4c53-9f6e-8d9d2a7b1c01\t20200131\t1\t900000000000207008\t900000000000509007\t"
     "1000015\t900000000000548007\n")
 DEFINITIONS = "sct2_TextDefinition_Delta-en_INT_20200131.txt"
@@ -103,7 +104,7 @@ def place_with_releases(place: Place) -> Place:
     place.seconds = SECONDS
     for number in range(1, 5):
         write(place.releases / f"r{number}",
-              {f"Terminology/{CONCEPTS}": COLUMNS + ROOT_ROW % f"{2019 + number}0131"})
+              {f"Terminology/{CONCEPTS}": COLUMNS + ROOT_ROW % f"{2019 + number}0131", **USUAL})
     return place
 
 
@@ -245,7 +246,7 @@ def test_names(place: Place, store: Path, words: Sequence[str]) -> None:
     """Names as people type them: with slashes at the end, and paths without a folder of
     releases."""
     for folder in ("releases/package/Full", "alone"):
-        write(place.path(folder), {f"Terminology/{CONCEPTS}": ROWS})
+        write(place.path(folder), {f"Terminology/{CONCEPTS}": ROWS, **USUAL})
     named = [word.format(place.folder) for word in words]
     assert place.run("import", "--quiet", "--store", store, *named) == (0, "OK 1 1 0\n", "")
 
@@ -291,12 +292,15 @@ LACKING = {f"Full/Terminology/{FULL_CONCEPTS}": ROWS, f"Full/terminology/{CONCEP
 LACKED = [OUT_OF_PLACE % f"terminology/{CONCEPTS}"
           + "a release has it in Terminology or a folder of Refset"]
 LACKED += [f"sctd: warning: a Full file of concepts was taken, and no {kind} file"
-           for kind in ("Description", "Relationship", "Refset")]
+           for kind in ("Description", "Relationship")]
+LACKED += [f"sctd: warning: a file of concepts was taken, and no {kind} file"
+           for kind in ("TextDefinition", "Language", "Association", "AttributeValue")]
 
 
 @pytest.mark.parametrize("files, name, told", (
     ({ASSOCIATIONS: ASSOCIATION_COLUMNS}, "made",
-     ["sctd: warning: no Concept, Description or Relationship file was taken"]),
+     ["sctd: warning: no Concept, Description or Relationship file was taken",
+      "sctd: warning: the release has no row"]),
     (LACKING, "made/Full", LACKED)), ids=("few kinds", "no descriptions"))
 def test_lacking(place: Place, store: Path, files: Files, name: str, told: Sequence[str]) -> None:
     write(place.releases / "made", files)
@@ -315,6 +319,11 @@ class Taken(NamedTuple):
     layout: int = 3
 
 
+# Files of column names, without which a release with concepts is warned of.
+USUAL = {f"Refset/Content/der2_cRefset_{name}Delta_INT_20210131.txt": LANGUAGE_COLUMNS
+         for name in ("Language", "AttributeValue")}
+USUAL[ASSOCIATIONS] = ASSOCIATION_COLUMNS
+USUAL[f"Terminology/{DEFINITIONS}"] = DEFINITION_ROWS.partition("\n")[0] + "\n"
 WHOLE = {f"Refset/Language/{LANGUAGE}": LANGUAGE_ROWS,
          f"Terminology/{DEFINITIONS}": DEFINITION_ROWS}
 BETA = f"Refset/Language/x{LANGUAGE}"
@@ -336,7 +345,8 @@ TAKEN = {
 
 
 def takes(place: Place, store: Path, taken: Taken) -> None:
-    write(place.releases / "package", {f"Terminology/{CONCEPTS}": ROWS, **taken.files})
+    files = {f"Terminology/{CONCEPTS}": ROWS, **USUAL, **taken.files}
+    write(place.releases / "package", files)
     ran = place.run("import", "--store", store, "--releases", "releases", "package")
     lines = ran.faults.splitlines()
     assert ran[:2] == (0, taken.reply + "\n")

@@ -1,5 +1,7 @@
 mod Commands
 mod Merged
-mod OnlyRead
+pub mod OnlyRead
 pub mod Told
 pub mod Digested
+
+mod Comparing

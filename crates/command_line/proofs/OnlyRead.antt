@@ -9,7 +9,7 @@ use Rattle.history_store.specs.Answers.{Counts, CountsRefusal}
 use Rattle.history_store.specs.Queries.{IsQuery}
 use Rattle.history_store.specs.Contradicting.{IsListing}
 use Rattle.disk_model.specs.View.{DiskView}
-use Rattle.command_line.specs.Tasks.{IsOnlyRead}
+use Rattle.command_line.specs.OnlyRead.{IsOnlyRead}
 
 -- the count of a disk's failures never falls
 refused_rises : (e : Refusal) (old new : ℕ) → CountsRefusal e old new → old ≤ new

@@ -18,6 +18,13 @@ pub record Report : Type 0 where
 abbrev pub report : Result Ending ServeFault → Option (List ℕ) → Option (List ℕ) → Report
 report ended old new = record { ended = ended; old = old; new = new }
 
+-- These bytes were written, and with them the task ended so. If the output failed, a proper prefix of
+-- them was written.
+abbrev pub IsWritten : Ending → List ℕ → Result Ending ServeFault → Option (List ℕ)
+    → Option (List ℕ) → Type 0
+IsWritten ending bytes (Ok ended) old new = (ended ≡ ending) × Appends old new bytes
+IsWritten ending bytes (Err fault) old new = (fault ≡ faults.Write) × AppendsSome old new bytes
+
 -- The outcome was written: an answer if the task is done, and if it was refused the refusal that
 -- its ending has. If the output failed, a proper prefix of it was written.
 abbrev pub IsTold : Result Ending ServeFault → Result Answer LineRefusal → Option (List ℕ)
@@ -26,6 +33,7 @@ IsTold (Ok endings.Done) outcome old new = IsOk outcome
     × Appends old new (bytes_of (reply_value outcome))
 IsTold (Ok (endings.Refused refusal)) outcome old new =
     (outcome ≡ Err refusal) × Appends old new (bytes_of (reply_value outcome))
+IsTold (Ok endings.Differs) outcome old new = ⊥
 IsTold (Err fault) outcome old new =
     (fault ≡ faults.Write) × AppendsSome old new (bytes_of (reply_value outcome))
 

@@ -9,6 +9,8 @@ pub mod Paths
 pub mod Words
 pub mod Hosts
 pub mod NamedDisks
+pub mod OnlyRead
+pub mod Verifying
 pub mod Tasks
 pub mod Merging
 pub mod Copies

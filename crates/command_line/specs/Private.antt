@@ -1,5 +1,8 @@
 -- Definitions for private functions and proofs, of this crate or of one above it. No public clause
 -- cites them.
+pub mod Verifying
+pub mod ShownAt
+pub mod Warnings
 use Rattle.std.specs.Prelude.{◌≡◌, ℕ, ◌<◌, ◌≤◌, false, List, [], ◌∷◌, codes, decimal}
 use Rattle.std.specs.Prelude.{Option, Some, None, Result, Ok, Err}
 use Rattle.clap.specs.Walk.{Rule, rule_of}

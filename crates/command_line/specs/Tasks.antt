@@ -1,5 +1,5 @@
 -- What is done with a store.
-use Rattle.std.specs.Prelude.{◌≡◌, ◌↔◌, ◌≤◌, ℕ, List, [], ◌++◌, codes, decimal, Option, Some, None}
+use Rattle.std.specs.Prelude.{◌≡◌, ℕ, List, [], ◌++◌, codes, decimal, Option, Some, None}
 use Rattle.std.specs.Prelude.{Bool, true, false, Result, Ok, Err, IfOk}
 use Rattle.directory.specs.declared.layout.Layout.{Layout}
 use Rattle.directory.specs.declared.layout.Layout.TheVariants as layouts
@@ -28,7 +28,9 @@ use Rattle.command_line.specs.declared.words.Work.{Work}
 use Rattle.command_line.specs.declared.words.Work.TheVariants as works
 use Rattle.command_line.specs.Endings.{Report, report, Tells}
 use Rattle.command_line.specs.Hosts.{HostView, source_in}
+use Rattle.command_line.specs.OnlyRead.{IsOnlyRead}
 use Rattle.command_line.specs.Merging.{IsMergeTold}
+use Rattle.command_line.specs.Verifying.{IsVerifyTold}
 
 -- ---- making a store
 
@@ -58,19 +60,11 @@ pub record IsLineTold {D : Type 0} (source : SourceView) (view : D → DiskView)
       (λ turn. Tells report turn.outcome)
   pub left_so : left ≡ after.disk
 
--- Only reads were made on the disk: what crashes may leave of an honest one is unchanged, so is
--- whether it is honest, and the count of failures isn't less.
-pub record IsOnlyRead {D : Type 0} (view : D → DiskView) (old new : D) : Type 0 where
-  pub moments : (view old).is_honest → (view new).moments ≡ (view old).moments
-  pub honesty : (view old).is_honest ↔ (view new).is_honest
-  pub failures : (view old).failures ≤ (view new).failures
-
--- the line that checks the release was answered, and afterwards the disk was only read
-abbrev pub IsCheckTold : {D : Type 0} → SourceView → (D → DiskView) → List ℕ → StoreValue D → D
+-- the line that imports or checks a release was answered, and afterwards the disk was only read
+abbrev pub IsReleaseTold : {D : Type 0} → SourceView → (D → DiskView) → List ℕ → StoreValue D → D
     → Report → Type 0
-IsCheckTold {D} source view name store left report =
-    (mid : D) × IsLineTold source view (check_line name) store mid report
-    × IsOnlyRead view mid left
+IsReleaseTold {D} source view line store left report =
+    (mid : D) × IsLineTold source view line store mid report × IsOnlyRead view mid left
 
 -- the status was written, and the disk is unchanged
 abbrev pub IsStatusTold : {D : Type 0} → StoreValue D → D → Report → Type 0
@@ -111,14 +105,16 @@ pub record IsInputServed {D : Type 0} (held : Held) (source : SourceView) (view 
 abbrev pub IsWorkTold : {D : Type 0} → HostView D → (D → DiskView) → Work → StoreValue D → D
     → Report → Type 0
 IsWorkTold host view (works.Import folder name quiet) store left report =
-    IsLineTold (source_in host folder.now) view (import_line name.now) store left report
+    IsReleaseTold (source_in host folder.now) view (import_line name.now) store left report
 IsWorkTold host view (works.Check folder name quiet) store left report =
-    IsCheckTold (source_in host folder.now) view name.now store left report
+    IsReleaseTold (source_in host folder.now) view (check_line name.now) store left report
 IsWorkTold host view works.Status store left report = IsStatusTold store left report
 IsWorkTold host view (works.Merge segments) store left report =
     IsMergeTold view segments store left report
 IsWorkTold host view (works.Digest imports) store left report =
     IsLineTold no_releases view (digest_line imports) store left report
+IsWorkTold host view (works.Verify folder name list) store left report =
+    IsVerifyTold view list store left report
 IsWorkTold host view (works.Serve folder read_only words) store left report = ⊥
 
 -- what work does with an open store: only `serve` reads the input

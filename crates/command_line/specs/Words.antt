@@ -106,6 +106,19 @@ abbrev pub digest_command : App
 digest_command =
     with_rule (with_rule (new_app (codes "digest")) (option (codes "store"))) imports_option
 
+-- the option `--list`: how many differences of a sort are told, 10 if it isn't given
+abbrev pub list_option : Rule
+list_option = record (option (codes "list")) {
+  parser = Some (Unsigned 0 1000000);
+  defaults = codes "10" ∷ [];
+  required = false;
+}
+
+abbrev pub verify_command : App
+verify_command = with_rule (with_rule (with_rule
+    (with_rule (new_app (codes "verify")) (option (codes "store"))) (optional (codes "releases")))
+    list_option) (wanted (codes "name"))
+
 abbrev pub demo_command : App
 demo_command = new_app (codes "demo")
 
@@ -119,9 +132,9 @@ empty_program = record {
 abbrev pub program : ValueParser → App
 program parser =
     with_subcommand (with_subcommand (with_subcommand (with_subcommand (with_subcommand
-    (with_subcommand (with_subcommand (with_subcommand empty_program
-    init_command.top) import_command.top) (serve_command parser).top) status_command.top) merge_command.top)
-    copy_command.top) digest_command.top) demo_command.top
+    (with_subcommand (with_subcommand (with_subcommand (with_subcommand empty_program
+    init_command.top) import_command.top) (serve_command parser).top) status_command.top)
+    merge_command.top) copy_command.top) digest_command.top) verify_command.top) demo_command.top
 
 -- ---- what is asked for
 
@@ -162,6 +175,10 @@ IsWork command rows (works.Merge segments) =
     (command ≡ codes "merge") × IsNumber (codes "segments") rows (Some segments)
 IsWork command rows (works.Digest imports) =
     (command ≡ codes "digest") × IsNumber (codes "imports") rows imports
+IsWork command rows (works.Verify folder name list) =
+    (command ≡ codes "verify") × IsNumber (codes "list") rows (Some list)
+    × ((word : Text) × (first_of (codes "name") rows ≡ Some word)
+    × IsNamed (first_of (codes "releases") rows) word folder.now name.now)
 
 -- the command of this name was given, with the arguments of this action on the file of a store
 abbrev pub IsAction : Text → List Row → Action → Type 0

@@ -1,16 +1,14 @@
-//! The source of a release that is checked, and the additional messages of a check.
+//! The source of a release that is checked, and its contradictions.
 
-ghost use Rattle.command_line.specs.Tasks.{IsOnlyRead};
+ghost use Rattle.command_line.specs.OnlyRead.{IsOnlyRead};
 
 use crate::contradicting::{MOST_TOLD, files_without_bytes, tell_contradictions};
-use crate::endings::Ending;
 use crate::folder_source::FolderSource;
 use crate::host::Host;
-use crate::warning::{outline_of, tell_uncompared, tell_warnings};
 use disk_model::Disk;
 use history_store::{Refusal, Store};
 use import_check::{Release, Scope};
-use line_server::{ServeFault, Source, SourceFault};
+use line_server::{Source, SourceFault};
 use std::alloc::Global;
 use std::io::{self, Write};
 
@@ -42,18 +40,17 @@ impl<H: Host, E: Write> Source for CheckSource<'_, H, E> {
 }
 
 impl<H: Host, E: Write> CheckSource<'_, H, E> {
-    /// Reports all contradictions of a release, if the check was refused for one, and what else may
-    /// be wrong with the release, if it could be read. Reads the release from its folder once more.
-    pub(crate) fn tell_more<D: Disk>(
+    /// Reports all contradictions of a release, if the check was refused for one, for which it reads
+    /// the release from its folder once more.
+    pub(crate) fn tell_contradicting<D: Disk>(
         &mut self,
         alloc: Global,
         name: &str,
-        ended: Result<Ending, ServeFault>,
         store: &mut Store<D>,
     )
         ensures { IsOnlyRead D.view store.old.disk store.new.disk }
     {
-        if self.refused.is_none() && !matches!(ended, Ok(Ending::Done)) {
+        if self.refused.is_none() {
             return;
         }
         // Messages about the folder were printed when it was read the first time.
@@ -63,16 +60,13 @@ impl<H: Host, E: Write> CheckSource<'_, H, E> {
             .host
             .release(alloc, self.folder.dir, name, scope, true, &mut io::sink());
         match again {
-            Ok(release) => self.tell_of(alloc, name, release, store),
-            Err(_) => {
-                self.tell_one(alloc, name, scope);
-                tell_uncompared(self.folder.faults);
-            }
+            Ok(release) => self.tell_all(alloc, name, release, store),
+            Err(_) => self.tell_one(alloc, name, scope),
         }
     }
 
-    /// Reports the contradictions of a release, and what else may be wrong with it.
-    fn tell_of<D: Disk>(
+    /// Reports the contradictions of a release.
+    fn tell_all<D: Disk>(
         &mut self,
         alloc: Global,
         name: &str,
@@ -81,27 +75,6 @@ impl<H: Host, E: Write> CheckSource<'_, H, E> {
     )
         ensures { IsOnlyRead D.view store.old.disk store.new.disk }
     {
-        let outline = outline_of(alloc, &release.files);
-        self.tell_contradicting(alloc, name, release, store);
-        match outline {
-            Ok(outline) => tell_warnings(alloc, &outline, store, self.folder.faults),
-            Err(_) => tell_uncompared(self.folder.faults),
-        }
-    }
-
-    /// Reports the contradictions of a release, if it was refused for one.
-    fn tell_contradicting<D: Disk>(
-        &mut self,
-        alloc: Global,
-        name: &str,
-        release: Release,
-        store: &mut Store<D>,
-    )
-        ensures { IsOnlyRead D.view store.old.disk store.new.disk }
-    {
-        if self.refused.is_none() {
-            return;
-        }
         let scope = store.scope();
         let Ok(files) = files_without_bytes(alloc, &release.files) else {
             self.tell_one(alloc, name, scope);

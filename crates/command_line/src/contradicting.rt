@@ -77,6 +77,11 @@ fn write_known<D: Disk, E: Write>(
         Some(number) => write!(faults, "import {number} brought ")?,
         None => write!(faults, "the store has ")?,
     }
+    tell_known_row(alloc, row, faults)
+}
+
+/// Writes a row. It is left out if there is no memory for it.
+pub(crate) fn tell_known_row<E: Write>(alloc: Global, row: &Row, faults: &mut E) -> io::Result<()> {
     let mut text = Vec::new(alloc);
     match write_row(row, &mut text) {
         Ok(()) => write!(faults, "{}", Shown(text.as_slice())),

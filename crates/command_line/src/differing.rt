@@ -51,6 +51,6 @@ fn key_of(line: &[u8]) -> Option<(&[u8], &[u8])> {
 }
 
 /// The line without a CR at its end.
-fn without_end(line: &[u8]) -> &[u8] {
+pub(crate) fn without_end(line: &[u8]) -> &[u8] {
     line.strip_suffix(b"\r".as_slice()).unwrap_or(line)
 }

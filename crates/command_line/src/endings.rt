@@ -7,7 +7,7 @@ ghost use Rattle.line_server.specs.declared.refusal.LineRefusal.TheVariants.{Sto
 ghost use Rattle.line_server.specs.ReplyValue.{Answer, Done as AllDone, reply_value};
 ghost use Rattle.line_server.specs.Turns.{IsToldBy};
 ghost use Rattle.command_line.specs.declared.endings.Ending.TheVariants.{Done};
-ghost use Rattle.command_line.specs.Endings.{IsTold};
+ghost use Rattle.command_line.specs.Endings.{IsTold, IsWritten};
 ghost use Rattle.command_line.specs.Private.{fault_sign, fault_line};
 
 use history_store::Refusal;
@@ -21,6 +21,8 @@ pub enum Ending {
     Done,
     /// It was refused; the last line of its output says so.
     Refused(LineRefusal),
+    /// The store and a package's Snapshot differ; the last line of the output says so.
+    Differs,
 }
 
 /// How a task ended, its disk, if it has one, and the disk that was made for a copy, if there is
@@ -41,7 +43,7 @@ pub(crate) fn finish<O: Write, E: Write>(
     match ended {
         Err(fault) => fail(fault, faults),
         Ok(_) if flushed.is_err() => fail(ServeFault::Write, faults),
-        Ok(Ending::Refused(_)) => 1,
+        Ok(Ending::Refused(_) | Ending::Differs) => 1,
         Ok(Ending::Done) => 0,
     }
 }
@@ -89,6 +91,25 @@ fn name_of(fault: ServeFault) -> &'static str
         ServeFault::Write => "Write",
         ServeFault::Reads => "Reads",
     }
+}
+
+/// Writes a line, with which the task ends so.
+pub(crate) fn write_line<O: Write>(
+    output: &mut O,
+    line: &[u8],
+    ending: Ending,
+) -> Result<Ending, ServeFault>
+    ensures { IsWritten ending line.now result (O.contents output.old) (O.contents output.new) }
+{
+    let mut done = 0;
+    while done < line.len() {
+        match output.write(&line[done..]) {
+            Ok(0) => return Err(ServeFault::Write),
+            Ok(n) => done += n,
+            Err(_) => return Err(ServeFault::Write),
+        }
+    }
+    Ok(ending)
 }
 
 /// Writes an answer.

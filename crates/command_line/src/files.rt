@@ -1,5 +1,6 @@
 //! The real files and folders.
 
+use crate::calendar::day_after_first;
 use crate::file_names::{FileName, name_disk, name_made, remove_made};
 use crate::holders::holder_of;
 use crate::host::{Host, Mode};
@@ -8,12 +9,15 @@ use crate::progress::{Progress, tell_later};
 use disk_model::{FileDisk, OpenFault, sync_folder_of};
 use import_check::{Release, Scope};
 use line_server::SourceFault;
-use release_folder::{FolderFault, read_release};
+use release_folder::{
+    FolderFault, FolderReadFault, SnapshotFile, read_part, read_release, snapshot_files,
+};
 use shown_names::Shown;
 use std::alloc::Global;
 use std::fs::{self, File, Files, OpenOptions};
 use std::io::{self, Write};
 use std::os::unix::fs::OpenOptionsExt;
+use std::time::Clock;
 
 /// The real files and folders. Which of them exist isn't specified.
 #[derive(Clone, Copy)]
@@ -32,7 +36,7 @@ impl<'a, R: Files<File = File> + AllocGlobal> FileHost<'a, R> {
 type NamedFile<'a, R> = NamedDisk<FileDisk, FileName<'a, R>>;
 
 // promise: a_command_does_what_its_words_say
-impl<'a, R: Files<File = File> + AllocGlobal + Clone + Drop> Host for FileHost<'a, R> {
+impl<'a, R: Files<File = File> + Clock + AllocGlobal + Clone + Drop> Host for FileHost<'a, R> {
     ghost use Rattle.command_line.specs.Hosts.{unspecified};
 
     type Disk = NamedFile<'a, R>;
@@ -135,13 +139,35 @@ impl<'a, R: Files<File = File> + AllocGlobal + Clone + Drop> Host for FileHost<'
                 tell_later(later, quiet, faults);
                 Ok(release)
             }
-            Err(fault) => match fault.fault() {
-                FolderFault::OutOfMemory => Err(SourceFault::OutOfMemory),
-                FolderFault::NoFolder => {
-                    let _ = writeln!(faults, "sctd: {fault}");
-                    Err(SourceFault::NoFolder)
-                }
-            },
+            Err(fault) => Err(told(&fault, faults)),
+        }
+    }
+
+    fn snapshot<E: Write>(
+        &self,
+        alloc: Global,
+        folder: &str,
+        name: &str,
+        scope: Scope,
+        faults: &mut E,
+    ) -> Result<Vec<SnapshotFile>, SourceFault> {
+        match snapshot_files(self.rt, alloc, folder, name, scope) {
+            Ok(files) => Ok(files),
+            Err(fault) => Err(told(&fault, faults)),
+        }
+    }
+
+    fn part<E: Write>(
+        &self,
+        alloc: Global,
+        file: &SnapshotFile,
+        from: u64,
+        most: u64,
+        faults: &mut E,
+    ) -> Result<Vec<u8>, SourceFault> {
+        match read_part(self.rt, alloc, file, from, most) {
+            Ok(bytes) => Ok(bytes),
+            Err(fault) => Err(told(&fault, faults)),
         }
     }
 
@@ -158,7 +184,27 @@ impl<'a, R: Files<File = File> + AllocGlobal + Clone + Drop> Host for FileHost<'
             Err(_) => None,
         }
     }
+
+    /// The day in UTC, by the system's clock.
+    fn today(&self) -> Option<u32> {
+        let now = self.rt.since_1970().ok()?;
+        day_after_first(now.as_secs() / SECONDS_OF_DAY)
+    }
 }
+
+/// Writes why a folder can't be read, unless memory ran out.
+fn told<E: Write>(fault: &FolderReadFault, faults: &mut E) -> SourceFault {
+    match fault.fault() {
+        FolderFault::OutOfMemory => SourceFault::OutOfMemory,
+        FolderFault::NoFolder => {
+            let _ = writeln!(faults, "sctd: {fault}");
+            SourceFault::NoFolder
+        }
+    }
+}
+
+/// How many seconds a day has.
+const SECONDS_OF_DAY: u64 = 86_400;
 
 /// The permissions of a file that only its owner may read and write.
 const OWNER_ALONE: u32 = 0o600;

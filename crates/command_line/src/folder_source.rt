@@ -1,13 +1,20 @@
 //! A folder with the folders of releases, as a source.
 
 ghost use Rattle.std.specs.Prelude.{◌≡◌};
+ghost use Rattle.command_line.specs.OnlyRead.{IsOnlyRead};
 
+use crate::endings::Ending;
+use crate::file_warning::warn_of_files;
 use crate::host::Host;
+use crate::outline::{Outline, outline_of};
 use crate::progress::tell_taken;
 use crate::telling::{is_about_row, tell_row};
-use history_store::Refusal;
+use crate::warning::{Days, tell_uncompared, tell_warnings};
+use disk_model::Disk;
+use history_store::{Refusal, Store};
 use import_check::{Release, Scope};
-use line_server::{Source, SourceFault};
+use line_server::{LineRefusal, ServeFault, Source, SourceFault};
+use rf2_values::EffectiveTime;
 use std::alloc::Global;
 use std::io::{self, Write};
 
@@ -23,6 +30,8 @@ pub struct FolderSource<'a, H: Host, E: Write> {
     pub doing: &'static str,
     /// Only print messages about what may be wrong.
     pub quiet: bool,
+    /// The outline of the last release that was read, unless there was no memory for it.
+    pub outline: Option<Outline>,
 }
 
 impl<'a, H: Host, E: Write> FolderSource<'a, H, E> {
@@ -43,8 +52,56 @@ impl<'a, H: Host, E: Write> FolderSource<'a, H, E> {
             faults,
             doing,
             quiet,
+            outline: None,
         }
     }
+
+    /// Warns of what in the last release doesn't go with what the store has, if the release could be
+    /// compared with the store: the task ended so. The store had rows up to a day before it.
+    pub(crate) fn tell_warnings<D: Disk>(
+        &mut self,
+        alloc: Global,
+        ended: Result<Ending, ServeFault>,
+        before: Option<EffectiveTime>,
+        store: &mut Store<D>,
+    )
+        ensures { IsOnlyRead D.view store.old.disk store.new.disk }
+    {
+        if !was_compared(ended) {
+            return;
+        }
+        let days = Days {
+            today: self.host.today(),
+            before,
+        };
+        match &self.outline {
+            Some(outline) => tell_warnings(alloc, outline, days, store, self.faults),
+            None => tell_uncompared(self.faults),
+        }
+    }
+
+    /// Reports what was taken of a release, and what may be wrong with it by itself.
+    fn tell_read(&mut self, release: &Release, scope: Scope) {
+        if !self.quiet {
+            tell_taken(release, self.faults);
+        }
+        let latest = match &self.outline {
+            Some(outline) => outline.latest(),
+            None => None,
+        };
+        warn_of_files(release, latest, self.host.today(), scope, self.faults);
+        if !self.quiet {
+            let _ = writeln!(self.faults, "sctd: {}", self.doing);
+        }
+    }
+}
+
+/// Whether a release was compared with the store: it was taken, or contradicts what is there.
+fn was_compared(ended: Result<Ending, ServeFault>) -> bool {
+    matches!(
+        ended,
+        Ok(Ending::Done) | Ok(Ending::Refused(LineRefusal::Store(Refusal::Contradiction { .. })))
+    )
 }
 
 impl<H: Host, E: Write> Source for FolderSource<'_, H, E> {
@@ -57,7 +114,8 @@ impl<H: Host, E: Write> Source for FolderSource<'_, H, E> {
             .host
             .release(alloc, self.dir, name, scope, self.quiet, self.faults);
         if let Ok(release) = &given {
-            tell_taken(release, self.doing, scope, self.quiet, self.faults);
+            self.outline = outline_of(alloc, &release.files).ok();
+            self.tell_read(release, scope);
         }
         given
     }

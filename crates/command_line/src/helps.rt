@@ -128,6 +128,15 @@ Stores with the same rows have the same digest, however they came to them.
 
 The guide tells more: docs/GUIDE.md, \"The same data as three years ago\"";
 
+pub(crate) const VERIFY: &str = "Examples:
+  sctd verify --store terms.store releases/package/Snapshot
+  sctd verify --list 100 --store terms.store releases/package/Snapshot
+
+The answer is OK and how many rows of each kind (C D R A V M) the Snapshot has; or
+ERR 46 Differs, and how many components are missing in the store, more, and other.
+
+The guide tells more: docs/OPERATE.md, \"Is the store whole?\"";
+
 pub(crate) const DEMO: &str = "Example:
   sctd demo
 

@@ -1,14 +1,16 @@
 //! What the program can name: disks of stores, and folders of releases.
 
-ghost use Rattle.std.specs.Prelude.{◌≡◌, ℕ};
+ghost use Rattle.std.specs.Prelude.{◌≡◌, ◌-◌, ℕ, All, IfOk, length, min};
 ghost use Rattle.disk_model.specs.Disk.{raised_by};
 ghost use Rattle.line_server.specs.Sources.{IsGiven};
+ghost use Rattle.release_folder.specs.Names.{IsOfSnapshot};
 ghost use Rattle.command_line.specs.Hosts.{HostView, IsRemoved, MakesAsBefore};
 ghost use Rattle.command_line.specs.declared.host.Mode.TheVariants.{Open};
 
 use disk_model::Disk;
 use import_check::{Release, Scope};
 use line_server::SourceFault;
+use release_folder::SnapshotFile;
 use std::alloc::Global;
 use std::io::{self, Write};
 
@@ -85,9 +87,35 @@ pub trait Host {
         ensures { (view self.now).is_honest
             → IsGiven result ((view self.now).releases folder.now scope name.now) };
 
+    /// The Snapshot files of the package in a folder below another one, that the scope includes.
+    fn snapshot<E: Write>(
+        &self,
+        alloc: Global,
+        folder: &str,
+        name: &str,
+        scope: Scope,
+        faults: &mut E,
+    ) -> Result<Vec<SnapshotFile>, SourceFault>
+        ensures { IfOk result (λ files. All (IsOfSnapshot scope) files.items) };
+
+    /// Reads the bytes of one of these files from one on, at most so many; fewer only at its end.
+    fn part<E: Write>(
+        &self,
+        alloc: Global,
+        file: &SnapshotFile,
+        from: u64,
+        most: u64,
+        faults: &mut E,
+    ) -> Result<Vec<u8>, SourceFault>
+        ensures { IfOk result
+            (λ bytes. length bytes.items ≡ min most (file.now.bytes - from)) };
+
     /// The system error of the last call on the disk that failed, if one has failed.
     fn last_error(&self, disk: &Self::Disk) -> Option<io::Error>;
 
     /// The length of the file with this name, in bytes, if it can be read.
     fn size(&self, name: &str) -> Option<u64>;
+
+    /// The day that it is, as a number of eight digits, if that is known. Only warnings rest on it.
+    fn today(&self) -> Option<u32>;
 }

@@ -2,8 +2,8 @@
 #![tactic(auto)]
 
 mod answering;
+mod calendar;
 mod check_source;
-mod checking;
 mod contradicting;
 mod copying;
 mod demonstration;
@@ -11,21 +11,30 @@ mod differing;
 mod digesting;
 mod endings;
 mod file_names;
+mod file_warning;
 mod files;
 mod folder_source;
 mod helps;
 mod holders;
 mod host;
+mod importing;
 mod inspecting;
 mod making;
 mod merging;
 mod named_disk;
+mod outline;
+mod package_day;
+mod package_rows;
 mod paths;
 mod progress;
 mod running;
 mod serving;
+mod store_at;
 mod telling;
+mod telling_differences;
 mod told_lines;
+mod usual;
+mod verifying;
 mod warning;
 mod words;
 

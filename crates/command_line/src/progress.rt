@@ -1,7 +1,7 @@
 //! Messages while a release is imported.
 
 use import_check::{Release, ReleaseFile, Scope};
-use release_folder::{Watcher, is_nearly_to_take, kind_to_take, lacks};
+use release_folder::{Watcher, is_nearly_to_take, kind_to_take};
 use rf2_values::Kind;
 use shown_names::Shown;
 use std::io::Write;
@@ -91,53 +91,12 @@ store keeps them from layout 3 on; sctd copy --layout 3, and import the release 
     }
 }
 
-/// The kinds for which a Full release usually has files.
-fn common_kinds(scope: Scope) -> &'static [Kind] {
-    match scope {
-        Scope::Basic => &[Kind::Description, Kind::Relationship],
-        Scope::Whole => &[Kind::Description, Kind::Relationship, Kind::Member],
-    }
-}
-
-/// Prints which files of a release were read, and what is done with the release now (`doing`);
-/// neither if `quiet`. In any case it warns if the release has no file of concepts, descriptions or
-/// relationships, and if it has a Full file of concepts but lacks another kind of file that a Full
-/// release usually has.
-pub(crate) fn tell_taken<E: Write>(
-    release: &Release,
-    doing: &str,
-    scope: Scope,
-    quiet: bool,
-    faults: &mut E,
-) {
-    if !quiet {
-        for file in &release.files {
-            let name = Shown(file.name.as_bytes());
-            let (kind, rows) = (word_of(file.kind), rows_of(file));
-            let _ = writeln!(faults, "sctd: took {name}: {kind}, rows: {rows}");
-        }
-    }
-    if !release
-        .files
-        .iter()
-        .any(|file| is_of_terminology(file.kind))
-    {
-        let _ = writeln!(
-            faults,
-            "sctd: warning: no Concept, Description or Relationship file was taken"
-        );
-    }
-    for kind in common_kinds(scope) {
-        if lacks(&release.files, *kind) {
-            let word = word_of(*kind);
-            let _ = writeln!(
-                faults,
-                "sctd: warning: a Full file of concepts was taken, and no {word} file"
-            );
-        }
-    }
-    if !quiet {
-        let _ = writeln!(faults, "sctd: {doing}");
+/// Prints which files of a release were read.
+pub(crate) fn tell_taken<E: Write>(release: &Release, faults: &mut E) {
+    for file in &release.files {
+        let name = Shown(file.name.as_bytes());
+        let (kind, rows) = (word_of(file.kind), rows_of(file));
+        let _ = writeln!(faults, "sctd: took {name}: {kind}, rows: {rows}");
     }
 }
 
@@ -147,15 +106,6 @@ fn rows_of(file: &ReleaseFile) -> usize {
     match file.bytes.last() {
         Some(b'\n') => ends.saturating_sub(1),
         _ => ends,
-    }
-}
-
-/// Whether files of this kind have concepts, descriptions or relationships; those with concrete
-/// values don't count. Nearly every release has such a file.
-fn is_of_terminology(kind: Kind) -> bool {
-    match kind {
-        Kind::Concept | Kind::Description | Kind::Relationship => true,
-        Kind::Association | Kind::Concrete | Kind::Member => false,
     }
 }
 

@@ -9,28 +9,27 @@ ghost use Rattle.command_line.specs.declared.host.Mode.TheVariants.{Open};
 ghost use Rattle.command_line.specs.Runs.{Does, IsActionDone, IsMadeAt, FindsFolder, IsUsed};
 ghost use Rattle.command_line.specs.Runs.{mode_of, IsDemonstrated, IsDemonstration};
 ghost use Rattle.command_line.specs.Runs.{IsRun, IsNoTask, IsExplained};
-ghost use Rattle.command_line.specs.Private.{IsAtRest};
+ghost use Rattle.history_store.specs.Answers.{IsReady};
 
-use crate::answering::answer_read;
 use crate::check_source::CheckSource;
-use crate::checking::check;
 use crate::copying::copy_to;
 use crate::demonstration::{SCRIPT, Samples};
 use crate::digesting::digest;
 use crate::endings::{Ending, Performed, fail, finish, refuse, tell_refusal};
 use crate::folder_source::FolderSource;
 use crate::host::{Host, Mode};
+use crate::importing::{check, import};
 use crate::inspecting::{figures_of, tell_status};
 use crate::making::init;
 use crate::merging::merge;
 use crate::serving::{serve_all, serve_new};
 use crate::telling::{Context, tell_figures, tell_why};
 use crate::told_lines::ToldLines;
+use crate::verifying::{Asked, verify};
 use crate::words::{Action, Refused, Task, Work, task_of};
 use directory::Layout;
 use disk_model::MemDisk;
 use history_store::{Refusal, Store, Words};
-use line_commands::import_request;
 use line_server::{Held, LineRefusal, ServeFault};
 use std::alloc::Global;
 use std::io::{Read, Write};
@@ -285,7 +284,7 @@ fn do_work<'a, H: Host, I: Read, O: Write, E: Write>(
     output: &mut O,
     faults: &mut E,
 ) -> Result<Ending, ServeFault>
-    requires { IsAtRest store.old }
+    requires { IsReady store.old }
     ensures { IsWorkDone (H.view host.now) H.Disk.view work.now store.old store.new.disk result
         (streams (I.remaining input.old) (I.remaining input.new)
         (O.contents output.old) (O.contents output.new)) }
@@ -297,7 +296,7 @@ fn do_work<'a, H: Host, I: Read, O: Write, E: Write>(
             quiet,
         } => {
             let mut source = FolderSource::new(host, *releases, faults, "importing", *quiet);
-            answer_read(alloc, &import_request(*name), &mut source, store, output)
+            import(alloc, *name, &mut source, store, output)
         }
         Work::Check {
             releases,
@@ -333,6 +332,18 @@ fn do_work<'a, H: Host, I: Read, O: Write, E: Write>(
         }
         Work::Merge { segments } => merge(alloc, path, *segments, store, output, faults),
         Work::Digest { imports } => digest(alloc, *imports, store, output),
+        Work::Verify {
+            releases,
+            name,
+            list,
+        } => {
+            let asked = Asked {
+                releases: *releases,
+                name: *name,
+                list: *list,
+            };
+            verify(host, alloc, asked, store, output, faults)
+        }
     }
 }
 

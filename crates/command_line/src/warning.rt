@@ -1,14 +1,14 @@
-//! Warnings about a release that was checked.
+//! Warnings about a release beside what a store has, once the reply was written.
 
-ghost use Rattle.command_line.specs.Tasks.{IsOnlyRead};
+ghost use Rattle.command_line.specs.OnlyRead.{IsOnlyRead};
 
+use crate::outline::{Outline, raise};
 use disk_model::Disk;
 use history_store::{Refusal, Store};
-use import_check::ReleaseFile;
 use question_model::RowQuestion;
-use rf2_values::{EffectiveTime, Key, Kind, Sctid};
-use std::alloc::{AllocFailed, Global};
-use std::collections::BTreeSet;
+use rf2_values::{EffectiveTime, Kind, Sctid};
+use std::alloc::Global;
+use std::collections::{BTreeMap, BTreeSet};
 use std::io::{self, Write};
 
 /// A year, as a difference of dates that are written as numbers of eight digits.
@@ -17,73 +17,50 @@ const YEAR: u32 = 10_000;
 /// The most modules that a warning names.
 const MOST_NAMED: usize = 10;
 
-/// How many rows of a store are read at a time.
-const ROWS_AT_ONCE: u32 = 4_096;
+/// The core module of the International Edition, and the one of what releases are made of. Every
+/// release builds on both, and they are only published together.
+const CORE: u64 = 900000000000207008;
 
-/// What the warnings are based on.
-#[derive(Drop)]
-pub(crate) struct Outline {
-    /// The greatest effective time of the release's rows; 0 if it has none.
-    latest: u32,
-    /// The modules of its rows.
-    modules: BTreeSet<u64>,
+const MODEL: u64 = 900000000000012004;
+
+/// The reference set of rows that say which modules build on others.
+const DEPENDENCIES: u64 = 900000000000534007;
+
+/// The last day of which there may be rows.
+const LAST_DAY: u32 = 99991231;
+
+/// The days that a release is compared with.
+#[derive(Clone, Copy)]
+pub(crate) struct Days {
+    /// Today, if the host tells it.
+    pub today: Option<u32>,
+    /// The greatest effective time of a row of the store before the release was imported, if it had
+    /// a row.
+    pub before: Option<EffectiveTime>,
 }
 
-/// The outline of a release.
-pub(crate) fn outline_of(
-    alloc: Global,
-    files: &[ReleaseFile],
-) -> Result<Outline, AllocFailed<u64>> {
-    let mut outline = Outline {
-        latest: 0,
-        modules: BTreeSet::new(alloc),
-    };
-    for file in files {
-        outline.note_all(&file.bytes)?;
-    }
-    Ok(outline)
-}
-
-impl Outline {
-    /// Adds what the lines of a file say, after its column names.
-    fn note_all(&mut self, bytes: &[u8]) -> Result<(), AllocFailed<u64>> {
-        for line in bytes.split(|byte| *byte == b'\n').skip(1) {
-            if let Some((time, module)) = time_and_module(line) {
-                self.latest = self.latest.max(time.value());
-                self.modules.insert(module.value())?;
-            }
-        }
-        Ok(())
-    }
-}
-
-/// The second and the fourth column of a line, if they are an effective time and an SCTID.
-fn time_and_module(line: &[u8]) -> Option<(EffectiveTime, Sctid)> {
-    let mut columns = line.split(|byte| *byte == b'\t').skip(1);
-    let time = EffectiveTime::parse(columns.next()?)?;
-    let module = Sctid::parse(columns.nth(1)?)?;
-    Some((time, module))
-}
-
-/// Warns of times in a release that are far later than those in the store, and of modules that the
-/// store doesn't have. There are no warnings for a store without rows.
+/// Warns of times in a release that are far later than those that the store had, of modules whose
+/// concepts nobody has, and of versions of modules on which it builds and that nobody has. There
+/// are no warnings of times and of modules for a store that had no rows. The release may have been
+/// imported: what counts is what the store and the release have.
 pub(crate) fn tell_warnings<D: Disk, E: Write>(
     alloc: Global,
     outline: &Outline,
+    days: Days,
     store: &mut Store<D>,
     faults: &mut E,
 )
     ensures { IsOnlyRead D.view store.old.disk store.new.disk }
 {
-    let Some(latest) = store.latest_time() else {
-        return;
-    };
-    warn_of_time(outline.latest, latest.value(), faults);
-    match unmet_modules(alloc, &outline.modules, store) {
-        Ok(unmet) => {
-            let _ = warn_of_modules(&unmet, faults);
+    warn_of_time(outline.latest(), days, faults);
+    match unknown_modules(alloc, outline, days, store) {
+        Ok(modules) => {
+            let _ = warn_of_modules(&modules, faults);
         }
         Err(_) => tell_uncompared(faults),
+    }
+    if warn_of_bases(alloc, outline, days, store, faults).is_err() {
+        tell_uncompared(faults);
     }
 }
 
@@ -95,86 +72,75 @@ pub(crate) fn tell_uncompared<E: Write>(faults: &mut E) {
     );
 }
 
-/// Warns of a time that is more than a year later than all times in the store.
-fn warn_of_time<E: Write>(time: u32, latest: u32, faults: &mut E) {
-    if time > latest.saturating_add(YEAR) {
+/// Warns of a time that is more than a year later than all times that the store had, unless it is
+/// after today, of which people were warned.
+fn warn_of_time<E: Write>(time: Option<u32>, days: Days, faults: &mut E) {
+    let (Some(time), Some(before)) = (time, days.before) else {
+        return;
+    };
+    let before = before.value();
+    if time > before.saturating_add(YEAR) && days.today.is_none_or(|today| time <= today) {
         let _ = writeln!(
             faults,
             "sctd: warning: an effectiveTime is {time}, more than a year later than all that the \
-store has, up to {latest}"
+store has, up to {before}"
         );
     }
 }
 
-/// The modules that no row of the store has. Reads rows in key order, until each module was found
-/// or no row is left.
-fn unmet_modules<D: Disk>(
+/// The modules of a release whose concepts neither the store nor the release has. Those of the
+/// International Edition are known everywhere, and all are to a store that had no rows.
+fn unknown_modules<D: Disk>(
     alloc: Global,
-    modules: &BTreeSet<u64>,
+    outline: &Outline,
+    days: Days,
     store: &mut Store<D>,
 ) -> Result<BTreeSet<u64>, Refusal>
     ensures { IsOnlyRead D.view store.old.disk store.new.disk }
 {
-    let mut unmet = modules_without_own_row(alloc, modules, store)?;
-    let mut last = None;
-    for _ in 0..store.row_count().div_ceil(u64::from(ROWS_AT_ONCE)) {
-        if unmet.is_empty() {
-            break;
-        }
-        last = meet_next(&mut unmet, last, store)?;
+    let mut unknown = BTreeSet::new(alloc);
+    if days.before.is_none() {
+        return Ok(unknown);
     }
-    Ok(unmet)
+    for module in outline.modules.keys() {
+        if is_unknown(*module, outline, store)? {
+            unknown.insert(*module)?;
+        }
+    }
+    Ok(unknown)
 }
 
-/// The modules whose own concept isn't in the module itself. Most modules' concepts are, and then
-/// no other row has to be read.
-fn modules_without_own_row<D: Disk>(
-    alloc: Global,
-    modules: &BTreeSet<u64>,
+/// Whether neither the store nor the release has the concept of a module, and it isn't one of the
+/// International Edition.
+fn is_unknown<D: Disk>(
+    module: u64,
+    outline: &Outline,
     store: &mut Store<D>,
-) -> Result<BTreeSet<u64>, Refusal>
+) -> Result<bool, Refusal>
     ensures { IsOnlyRead D.view store.old.disk store.new.disk }
 {
-    let mut unmet = BTreeSet::new(alloc);
-    for module in modules.iter() {
-        if !has_own_row(*module, store)? {
-            unmet.insert(*module)?;
-        }
+    if is_international(module) || outline.with_concepts.contains(&module) {
+        return Ok(false);
     }
-    Ok(unmet)
+    Ok(!has_concept(module, store)?)
 }
 
-/// Whether a row of a module's own concept is in the module.
-fn has_own_row<D: Disk>(module: u64, store: &mut Store<D>) -> Result<bool, Refusal>
+/// Whether it is a module of the International Edition that every release builds on.
+fn is_international(module: u64) -> bool {
+    module == CORE || module == MODEL
+}
+
+/// Whether the store has a concept.
+fn has_concept<D: Disk>(concept: u64, store: &mut Store<D>) -> Result<bool, Refusal>
     ensures { IsOnlyRead D.view store.old.disk store.new.disk }
 {
     let pin = store.imports();
     let versions = RowQuestion::History {
         kind: Kind::Concept,
-        id: u128::from(module),
+        id: u128::from(concept),
     };
     let rows = store.select(&versions, pin)?;
-    Ok(rows.iter().any(|row| row.module_id.value() == module))
-}
-
-/// Removes the modules of the next rows after a key, if one is given, and returns the key of the
-/// last of these rows.
-fn meet_next<D: Disk>(
-    unmet: &mut BTreeSet<u64>,
-    after: Option<Key>,
-    store: &mut Store<D>,
-) -> Result<Option<Key>, Refusal>
-    ensures { IsOnlyRead D.view store.old.disk store.new.disk }
-{
-    let pin = store.imports();
-    let rows = store.rows_after(after, ROWS_AT_ONCE, pin)?;
-    for row in &rows {
-        unmet.remove(&row.module_id.value());
-    }
-    match rows.last() {
-        Some(row) => Ok(Some(row.key())),
-        None => Ok(None),
-    }
+    Ok(!rows.is_empty())
 }
 
 /// Warns of modules, and names the first of them.
@@ -184,7 +150,7 @@ fn warn_of_modules<E: Write>(modules: &BTreeSet<u64>, faults: &mut E) -> io::Res
     }
     write!(
         faults,
-        "sctd: warning: modules of which the store has no row: "
+        "sctd: warning: modules of which neither the store nor the release has the concept: "
     )?;
     write_first(modules, faults)?;
     let more = modules.len().saturating_sub(MOST_NAMED);
@@ -203,4 +169,103 @@ fn write_first<E: Write>(modules: &BTreeSet<u64>, faults: &mut E) -> io::Result<
         write!(faults, "{module}")?;
     }
     Ok(())
+}
+
+/// Warns of each version of a module on which the release builds and that neither the store nor the
+/// release reaches.
+fn warn_of_bases<D: Disk, E: Write>(
+    alloc: Global,
+    outline: &Outline,
+    days: Days,
+    store: &mut Store<D>,
+    faults: &mut E,
+) -> Result<(), Refusal>
+    ensures { IsOnlyRead D.view store.old.disk store.new.disk }
+{
+    let needed = outline.needed()?;
+    if needed.is_empty() {
+        return Ok(());
+    }
+    let reached = reached_by(alloc, outline, store)?;
+    for (module, time) in needed.iter() {
+        let latest = latest_of(*module, &reached, days, store)?;
+        if latest.is_none_or(|latest| latest < *time) {
+            let _ = warn_of_base(*module, *time, latest, faults);
+        }
+    }
+    Ok(())
+}
+
+/// The modules of the release's rows and of the store's rows of dependencies, each with the
+/// greatest effective time of these rows.
+fn reached_by<D: Disk>(
+    alloc: Global,
+    outline: &Outline,
+    store: &mut Store<D>,
+) -> Result<BTreeMap<u64, u32>, Refusal>
+    ensures { IsOnlyRead D.view store.old.disk store.new.disk }
+{
+    let mut reached = BTreeMap::new(alloc);
+    for (module, time) in outline.modules.iter() {
+        raise(&mut reached, *module, *time)?;
+    }
+    let (Some(refset), Some(date)) = (Sctid::of(DEPENDENCIES), EffectiveTime::of(LAST_DAY)) else {
+        return Ok(reached);
+    };
+    let members = RowQuestion::Members {
+        refset,
+        date,
+        after: None,
+        limit: u32::MAX,
+    };
+    let pin = store.imports();
+    for row in &store.select(&members, pin)? {
+        raise(&mut reached, row.module_id.value(), row.time.value())?;
+    }
+    Ok(reached)
+}
+
+/// The latest time of a module. If no row of dependencies is in it, but the store has its concept,
+/// all rows that the store had count.
+fn latest_of<D: Disk>(
+    module: u64,
+    reached: &BTreeMap<u64, u32>,
+    days: Days,
+    store: &mut Store<D>,
+) -> Result<Option<u32>, Refusal>
+    ensures { IsOnlyRead D.view store.old.disk store.new.disk }
+{
+    let latest = reached_time(module, reached);
+    if latest.is_some() || !has_concept(module, store)? {
+        return Ok(latest);
+    }
+    Ok(days.before.map(|before| before.value()))
+}
+
+/// The time that is known of a module, or of one that is only published together with it.
+fn reached_time(module: u64, reached: &BTreeMap<u64, u32>) -> Option<u32> {
+    let own = reached.get(&module).copied();
+    if module == MODEL {
+        own.max(reached.get(&CORE).copied())
+    } else {
+        own
+    }
+}
+
+/// Warns of a version of a module, of which this is the latest that is there.
+fn warn_of_base<E: Write>(
+    module: u64,
+    time: u32,
+    latest: Option<u32>,
+    faults: &mut E,
+) -> io::Result<()> {
+    write!(
+        faults,
+        "sctd: warning: this release builds on {time} of module {module}, of which the store has \
+nothing"
+    )?;
+    match latest {
+        Some(latest) => writeln!(faults, " later than {latest}"),
+        None => writeln!(faults),
+    }
 }

@@ -17,6 +17,7 @@ ghost use Rattle.clap.specs.Walk.{first_of};
 ghost use Rattle.clap.specs.declared.builder.value_parser.ValueParser.{ValueParser};
 ghost use Rattle.segment_index.specs.declared.words.Words.TheVariants as kept;
 ghost use Rattle.command_line.specs.Words.{copy_command, digest_command, imports_option};
+ghost use Rattle.command_line.specs.Words.{verify_command, list_option};
 ghost use Rattle.command_line.specs.Words.{empty_program, program};
 
 use crate::helps;
@@ -92,6 +93,13 @@ pub enum Work<'a> {
     /// Write the digest of the rows that the first imports brought, or all if no number is given.
     Digest {
         imports: Option<u32>,
+    },
+    /// Compare the store with the Snapshot in the folder `name` below `releases`, at its day. Of
+    /// each sort of difference at most `list` are told.
+    Verify {
+        releases: &'a str,
+        name: &'a str,
+        list: u32,
     },
 }
 
@@ -235,6 +243,19 @@ fn segments<'a>(alloc: Global) -> Arg<'a>
         .action(ArgAction::Set)
 }
 
+/// The option for how many differences of a sort are told.
+fn list<'a>(alloc: Global) -> Arg<'a>
+    ensures { IsArgument list_option result }
+{
+    Arg::new(alloc, "list")
+        .long("list")
+        .value_name("N")
+        .help("How many components of each sort of difference are told")
+        .value_parser(ValueParser::Unsigned(0, 1_000_000))
+        .default_value("10")
+        .action(ArgAction::Set)
+}
+
 /// The option for the file of a copy.
 fn to<'a>(alloc: Global) -> Arg<'a>
     ensures { IsArgument (option (codes "to")) result }
@@ -361,6 +382,17 @@ fn digest<'a>(alloc: Global) -> Result<Command<'a>, AllocError>
         .arg(imports(alloc))
 }
 
+fn verify<'a>(alloc: Global) -> Result<Command<'a>, AllocError>
+    ensures { IfOk result (IsCommand verify_command) }
+{
+    let about = "Compares a store with the Snapshot files of an unpacked RF2 package, at its day";
+    new_command(alloc, "verify", about, helps::VERIFY)
+        .arg(store(alloc))?
+        .arg(releases_if_given(alloc))?
+        .arg(list(alloc))?
+        .arg(name(alloc))
+}
+
 fn demo<'a>(alloc: Global) -> Command<'a>
     ensures { IsCommand demo_command result }
 {
@@ -394,6 +426,7 @@ fn commands<'a>(alloc: Global) -> Result<Command<'a>, AllocError>
         .subcommand(merge(alloc)?)?
         .subcommand(copy(alloc)?)?
         .subcommand(digest(alloc)?)?
+        .subcommand(verify(alloc)?)?
         .subcommand(demo(alloc))
 }
 
@@ -448,6 +481,7 @@ fn work_in<'a>(command: &str, found: &ArgMatches<'a>) -> Option<Work<'a>>
         "digest" => Some(Work::Digest {
             imports: number_of(found, "imports")?,
         }),
+        "verify" => verify_of(found),
         _ => None,
     }
 }
@@ -472,6 +506,20 @@ fn import_of<'a>(found: &ArgMatches<'a>) -> Option<Work<'a>>
             quiet,
         })
     }
+}
+
+/// A comparison with a Snapshot.
+fn verify_of<'a>(found: &ArgMatches<'a>) -> Option<Work<'a>>
+    ensures { IfSome result (IsWork (codes "verify") (rows_of (found_of found.now))) }
+{
+    let list = number_of(found, "list")??;
+    let path = found.get_str("name")?;
+    let (releases, name) = folder_and_name(found.get_str("releases"), path);
+    Some(Work::Verify {
+        releases,
+        name,
+        list,
+    })
 }
 
 /// The given number, if there is one. Nothing if what was given is no number of 32 bits.

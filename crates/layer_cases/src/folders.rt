@@ -10,11 +10,11 @@
 //!   either;
 //! - `taken NAME` prints the kind of the files with a name, or `none`, in the basic scope and in
 //!   the whole one, and `nearly NAME` whether a name is nearly one to take in each of them;
-//! - `lacks KIND NAMES` prints whether files with these names, which aren't in quotes, lack one of
-//!   a kind.
+//! - `lacks MARK BEGINNING NAMES` prints whether files with these names, none of them in quotes, have
+//!   one of concepts with the mark, which is `-` for none, and no name that begins so.
 
 use case_files::{Answer, NoAnswer, two_words, unquoted};
-use case_values::{first_word, kind_of, spell_hex, spell_text};
+use case_values::{first_word, spell_hex, spell_text};
 use import_check::{Release, ReleaseFile, Scope};
 use release_folder::{
     FolderFault, FolderReadFault, Watcher, is_nearly_to_take, kind_to_take, lacks, read_folder,
@@ -214,14 +214,16 @@ fn file_of(alloc: Global, name: &str) -> Result<ReleaseFile, NoAnswer> {
     })
 }
 
-/// Whether files lack one of a kind.
+/// Whether files lack one of which the name has a beginning.
 fn spell_lacking(alloc: Global, words: &str) -> Answer {
-    let (kind, names) = two_words(words);
+    let (mark, rest) = two_words(words);
+    let (beginning, names) = two_words(rest);
+    let mark = if mark == "-" { "" } else { mark };
     let mut files = Vec::new(alloc);
     for name in names.split_whitespace() {
         files.push(file_of(alloc, name)?)?;
     }
-    let is_so = lacks(&files, kind_of(kind)?);
+    let is_so = lacks(&files, mark.as_bytes(), beginning.as_bytes());
     Ok(format!(in alloc; "{is_so}")?)
 }
 

@@ -1,5 +1,5 @@
 -- Which files of a folder are release files, by their names.
-use Rattle.std.specs.Prelude.{◌≡◌, ◌⊎◌, ◌≤◌, ◌-◌, ◌≢◌, ◌++◌, ℕ, Bool, List, All, Any, length, take, drop, codes, string_bytes}
+use Rattle.std.specs.Prelude.{◌≡◌, ◌⊎◌, ◌≤◌, ◌-◌, ◌++◌, ℕ, Bool, List, All, Any, length, take, drop, codes, string_bytes}
 use Rattle.std.specs.List.{AllZip}
 use Rattle.std.specs.List.Sorted.{IsPermutation, IsSortedBy}
 use Rattle.std.specs.Ordering.{is_lt}
@@ -13,6 +13,7 @@ use Rattle.import_check.specs.declared.scope.Scope.TheVariants as scopes
 use Rattle.rf2_values.specs.declared.row.Kind.{Kind}
 use Rattle.rf2_values.specs.declared.row.Kind.TheVariants as kind
 use Rattle.release_folder.specs.declared.part.Part.{Part}
+use Rattle.release_folder.specs.declared.snapshot.SnapshotFile.{SnapshotFile}
 
 -- a letter for a column of a reference set: `c` for a component, `i` for an integer, `s` for a
 -- string
@@ -43,23 +44,39 @@ Begins scopes.Whole kind.Description name =
     OccursAt name (codes "sct2_Description_") 0 ⊎ OccursAt name (codes "sct2_TextDefinition_") 0
 Begins scopes.Whole kind.Member name = IsMemberName name
 
--- the name of a release file of this kind: it belongs to a Delta or a Full release, and to a text
--- file
-pub record IsTaken (scope : Scope) (kind : Kind) (name : List ℕ) : Type 0 where
+-- the name of a text file with rows of this kind
+pub record IsNamed (scope : Scope) (kind : Kind) (name : List ℕ) : Type 0 where
   pub begins : Begins scope kind name
-  pub holds : Contains name (codes "Delta") ⊎ Contains name (codes "Full")
   pub ends : (length (codes ".txt") ≤ length name)
       × OccursAt name (codes ".txt") (length name - length (codes ".txt"))
 
--- a file of concepts of a Full release, judged by its kind and its name
-pub record IsFullOfConcepts (file : ReleaseFile) : Type 0 where
-  pub of_concepts : file.kind ≡ kind.Concept
-  pub full : Contains (string_bytes file.name) (codes "Full")
+-- the name of a release file of this kind, which belongs to a Delta or a Full release
+pub record IsTaken (scope : Scope) (kind : Kind) (name : List ℕ) : Type 0 where
+  pub named : IsNamed scope kind name
+  pub holds : Contains name (codes "Delta") ⊎ Contains name (codes "Full")
 
--- a release has a Full file of concepts and no file of this kind
-pub record Lacks (files : List ReleaseFile) (missing : Kind) : Type 0 where
-  pub concepts : Any IsFullOfConcepts files
-  pub none : All (λ file. file.kind ≢ missing) files
+-- the name of a file of this kind that belongs to a Snapshot
+pub record IsSnapshotFile (scope : Scope) (kind : Kind) (name : List ℕ) : Type 0 where
+  pub named : IsNamed scope kind name
+  pub holds : Contains name (codes "Snapshot")
+
+-- a file of a Snapshot, judged by its name, of the kind that its name says
+abbrev pub IsOfSnapshot : Scope → SnapshotFile → Type 0
+IsOfSnapshot scope file = IsSnapshotFile scope file.kind (string_bytes file.name)
+
+-- a file of concepts with this mark in its name, such as `Full`
+pub record IsOfConcepts (mark : List ℕ) (file : ReleaseFile) : Type 0 where
+  pub of_concepts : file.kind ≡ kind.Concept
+  pub marked : Contains (string_bytes file.name) mark
+
+-- the name of a file begins so
+abbrev pub BeginsSo : List ℕ → ReleaseFile → Type 0
+BeginsSo beginning file = OccursAt (string_bytes file.name) beginning 0
+
+-- a release has a file of concepts with this mark, and no file whose name begins so
+pub record Lacks (files : List ReleaseFile) (mark beginning : List ℕ) : Type 0 where
+  pub concepts : Any (IsOfConcepts mark) files
+  pub none : All (λ file. BeginsSo beginning file → ⊥) files
 
 -- a release file, judged by its name, of the kind that its name says, and with a length of 32 bits
 -- at most

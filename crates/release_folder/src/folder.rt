@@ -135,7 +135,7 @@ fn add_sorted(later: Vec<ReleaseFile>, files: &mut Vec<ReleaseFile>) -> Result<(
 }
 
 /// The names of the folders below `Refset` that are read, in byte order.
-fn refset_folders<R: Files<File = File> + AllocGlobal + Clone + Drop>(
+pub(crate) fn refset_folders<R: Files<File = File> + AllocGlobal + Clone + Drop>(
     rt: &R,
     alloc: Global,
     root: &str,
@@ -264,7 +264,7 @@ fn add_files<R: Files<File = File> + AllocGlobal + Clone + Drop, W: Watcher>(
 }
 
 /// The names in a folder, in byte order.
-fn names_in<R: Files<File = File> + AllocGlobal + Clone + Drop>(
+pub(crate) fn names_in<R: Files<File = File> + AllocGlobal + Clone + Drop>(
     rt: &R,
     alloc: Global,
     folder: &str,

@@ -4,10 +4,11 @@ ghost use Rattle.std.specs.Prelude.{◌≡◌, ◌↔◌, ◌⊎◌, IsTrue, IfO
 ghost use Rattle.std.specs.Prelude.{string_bytes, encode_utf8_all};
 ghost use Rattle.std.specs.List.{AllByRecursion};
 ghost use Rattle.memchr.specs.Find.{OccursAt};
+ghost use Rattle.bstr.specs.Text.{Contains};
 ghost use Rattle.import_check.specs.declared.scope.Scope.TheVariants as scopes;
 ghost use Rattle.rf2_values.specs.declared.row.Kind.{Kind};
 ghost use Rattle.release_folder.specs.Names.{IsColumnLetter, BeginsAsRefset, IsMemberName};
-ghost use Rattle.release_folder.specs.Names.{Begins, IsTaken};
+ghost use Rattle.release_folder.specs.Names.{Begins, IsNamed, IsTaken, IsSnapshotFile};
 ghost use Rattle.shown_names.specs.Shown.{shown, IsPrintable};
 
 use bstr::ByteSlice;
@@ -88,14 +89,43 @@ fn begins(scope: Scope, kind: Kind, name: &[u8]) -> bool
     }
 }
 
-/// Whether the name is that of a release file of this kind.
-fn is_taken(scope: Scope, kind: Kind, name: &[u8]) -> bool
-    ensures { IsTrue result ↔ IsTaken scope kind name.now }
+/// Whether the name is that of a text file with rows of this kind.
+fn is_named(scope: Scope, kind: Kind, name: &[u8]) -> bool
+    ensures { IsTrue result ↔ IsNamed scope kind name.now }
 {
     let begins = begins(scope, kind, name);
-    let holds = name.contains_str(b"Delta") || name.contains_str(b"Full");
     let ends = name.ends_with_str(b".txt");
-    begins && holds && ends
+    begins && ends
+}
+
+/// The kind of the rows of a text file with this name, if it says one.
+fn kind_named(name: &[u8], scope: Scope) -> Option<Kind>
+    ensures { MatchOption result
+        ((kind : Kind) → IsNamed scope kind name.now → ⊥)
+        (λ kind. IsNamed scope kind name.now) }
+{
+    if is_named(scope, Kind::Concept, name) {
+        Some(Kind::Concept)
+    } else if is_named(scope, Kind::Description, name) {
+        Some(Kind::Description)
+    } else if is_named(scope, Kind::Relationship, name) {
+        Some(Kind::Relationship)
+    } else if is_named(scope, Kind::Association, name) {
+        Some(Kind::Association)
+    } else if is_named(scope, Kind::Concrete, name) {
+        Some(Kind::Concrete)
+    } else if is_named(scope, Kind::Member, name) {
+        Some(Kind::Member)
+    } else {
+        None
+    }
+}
+
+/// Whether the name says that the file belongs to a Delta or a Full release.
+fn is_of_changes(name: &[u8]) -> bool
+    ensures { IsTrue result ↔ (Contains name.now (codes "Delta") ⊎ Contains name.now (codes "Full")) }
+{
+    name.contains_str(b"Delta") || name.contains_str(b"Full")
 }
 
 /// The kind of the file with this name, if it is a release file in this scope: a text file of a
@@ -106,18 +136,21 @@ pub fn kind_to_take(name: &[u8], scope: Scope) -> Option<Kind>
         ((kind : Kind) → IsTaken scope kind name.now → ⊥)
         (λ kind. IsTaken scope kind name.now) }
 {
-    if is_taken(scope, Kind::Concept, name) {
-        Some(Kind::Concept)
-    } else if is_taken(scope, Kind::Description, name) {
-        Some(Kind::Description)
-    } else if is_taken(scope, Kind::Relationship, name) {
-        Some(Kind::Relationship)
-    } else if is_taken(scope, Kind::Association, name) {
-        Some(Kind::Association)
-    } else if is_taken(scope, Kind::Concrete, name) {
-        Some(Kind::Concrete)
-    } else if is_taken(scope, Kind::Member, name) {
-        Some(Kind::Member)
+    if is_of_changes(name) {
+        kind_named(name, scope)
+    } else {
+        None
+    }
+}
+
+/// The kind of the file with this name, if it is a text file of a Snapshot in this scope.
+pub fn snapshot_kind(name: &[u8], scope: Scope) -> Option<Kind>
+    ensures { MatchOption result
+        ((kind : Kind) → IsSnapshotFile scope kind name.now → ⊥)
+        (λ kind. IsSnapshotFile scope kind name.now) }
+{
+    if name.contains_str(b"Snapshot") {
+        kind_named(name, scope)
     } else {
         None
     }

@@ -1,5 +1,5 @@
-use Rattle.command_line.proofs.OnlyRead.{listed}
+use Rattle.command_line.proofs.OnlyRead.{not_read}
 use Rattle.command_line.proofs.check_source.CheckSource.tell_contradicting.Goals as goal
 
-pub returns : goal.returns
-returns g c = listed g.D.Disk.view _ _ _ _ _ c.contradictions.ensures.answer
+pub returns-in-Err : goal.returns-in-Err
+returns-in-Err g c = not_read g.D.Disk.view _

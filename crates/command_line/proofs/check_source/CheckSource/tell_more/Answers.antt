@@ -1,8 +1,0 @@
-use Rattle.command_line.proofs.OnlyRead.{not_read}
-use Rattle.command_line.proofs.check_source.CheckSource.tell_more.Goals as goal
-
-pub returns-then-not-matches : goal.returns-then-not-matches
-returns-then-not-matches g c = not_read g.D.Disk.view _
-
-pub returns-in-Err : goal.returns-in-Err
-returns-in-Err g c = not_read g.D.Disk.view _

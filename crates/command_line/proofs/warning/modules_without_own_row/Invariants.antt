@@ -1,7 +1,0 @@
-use Rattle.command_line.specs.Tasks.{IsOnlyRead}
-use Rattle.command_line.proofs.warning.modules_without_own_row.Given as goal
-
--- so far the disk was only read
-abbrev pub invariant-loop-module : goal.invariant-loop-module
-invariant-loop-module g l =
-    IsOnlyRead g.D.Disk.view l.fn.store.disk l.store.disk

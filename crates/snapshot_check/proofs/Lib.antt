@@ -1,0 +1,4 @@
+pub mod Picking
+pub mod Taking
+pub mod Searching
+pub mod Paging
