@@ -20,5 +20,5 @@ pub use row::{
     Association, Body, Concept, Concrete, Description, Kind, RefsetMember, Relationship, Row,
 };
 pub use sctid::{Class, Sctid};
-pub use text::Text;
+pub use text::{Text, is_ascii};
 pub use time::EffectiveTime;

@@ -1,7 +1,9 @@
 //! The texts in columns.
 
 ghost use Rattle.std.specs.Prelude.{◌≡◌, nat_eq, ℕ, IfOk, MatchOption, IsTrue, ◌↔◌, ⊤, length, ◌≤◌};
-ghost use Rattle.std.specs.Prelude.{List};
+ghost use Rattle.std.specs.Prelude.{List, ◌<◌};
+ghost use Rattle.std.specs.List.{All};
+ghost use Rattle.std.specs.Str.{IsUtf8};
 ghost use Rattle.std.specs.Cmp.{partial_equiv_from_equiv};
 ghost use Rattle.std.specs.Cmp.Lexicographic.{nat_list_eq_equiv, pointwise};
 ghost use Rattle.rf2_values.specs.Text.{IsText};
@@ -24,11 +26,26 @@ impl Model for Text {
     ghost invariant = { λ t. IsText t.bytes.items };
 }
 
+/// Whether all bytes are ASCII. Of texts as short as those in columns, this is faster than the
+/// standard library's search, which is for long ones.
+pub fn is_ascii(bytes: &[u8]) -> bool
+    ensures { IsTrue result ↔ All (λ b. b < 128) bytes.now }
+{
+    bytes.iter().all(|b| *b < 128)
+}
+
+#[tactic(auto, using(crate::proofs::Texts::ascii_is_utf8))]
+fn is_utf8(bytes: &[u8]) -> bool
+    ensures { IsTrue result ↔ IsUtf8 bytes.now }
+{
+    is_ascii(bytes) || bytes.is_utf8()
+}
+
 /// Whether the bytes are a text: not empty, UTF-8, and without TAB and LF.
 fn is_text(bytes: &[u8]) -> bool
     ensures { IsTrue result ↔ IsText bytes.now }
 {
-    !bytes.is_empty() && bytes.is_utf8() && bytes.iter().all(|b| *b != b'\t' && *b != b'\n')
+    !bytes.is_empty() && is_utf8(bytes) && bytes.iter().all(|b| *b != b'\t' && *b != b'\n')
 }
 
 impl Text {

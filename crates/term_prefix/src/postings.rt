@@ -1,7 +1,8 @@
 //! The terms of rows, in the order in which rows are pushed.
 
 ghost use Rattle.std.specs.Prelude.{◌≡◌, ◌++◌, [], List, length, take, OnOk, OnErr, IfOk};
-ghost use Rattle.std.specs.Prelude.{string_bytes};
+ghost use Rattle.std.specs.Prelude.{string_bytes, ◌<◌};
+ghost use Rattle.std.specs.List.{All};
 ghost use Rattle.std.specs.List.Sorted.{IsPermutation};
 ghost use Rattle.std.specs.Str.{IsUtf8};
 ghost use Rattle.history_model.specs.Queries.{folded};
@@ -14,7 +15,7 @@ use crate::sealed::Sealed;
 use crate::text::{Term, compare, head_of};
 use caseless::default_case_fold_str;
 use history_model::StampedRow;
-use rf2_values::Body;
+use rf2_values::{Body, is_ascii};
 use std::alloc::{AllocError, Global};
 use std::marker::Model;
 
@@ -41,17 +42,59 @@ impl Model for Postings {
 }
 
 /// A term in the default case folding.
-#[tactic(auto, using(crate::proofs::Ascii::ascii_is_folded), unfolding(history_model::specs::Queries::folded))]
+#[tactic(auto, unfolding(history_model::specs::Queries::folded))]
 fn folded(alloc: Global, term: &[u8]) -> Result<String, AllocError>
     requires { IsUtf8 term.now }
     ensures { IfOk result (λ t. string_bytes t ≡ folded term.now) }
 {
     match str::from_utf8(term) {
-        // The folding of ASCII is its lower case, which takes less time.
-        Ok(text) if text.is_ascii() => text.to_ascii_lowercase(alloc),
         Ok(text) => default_case_fold_str(alloc, text),
         Err(_) => unreachable!(),
     }
+}
+
+/// Adds the default case folding of a term in ASCII, which is its lower case, at the end of a text.
+/// An `Err` changes nothing.
+fn extend_by_lower_case(text: &mut Vec<u8>, term: &[u8]) -> Result<(), AllocError>
+    requires { All (λ b. b < 128) term.now }
+    ensures ok { OnOk result (text.new.items ≡ text.old.items ++ folded term.now) }
+    ensures err { OnErr result (text.new.items ≡ text.old.items) }
+{
+    let start = text.len();
+    text.extend_from_slice(term)?;
+    text[start..].make_ascii_lowercase();
+    Ok(())
+}
+
+/// Adds the folding of a term that is in ASCII. Fails if the term has 4 GiB or more. An `Err` changes nothing.
+fn push_ascii(
+    text: &mut Vec<u8>,
+    terms: &mut Vec<Term>,
+    term: &[u8],
+    row: u32,
+) -> Result<(), AllocError>
+    requires { All (λ b. b < 128) term.now }
+    ensures ok { OnOk result (AddsTerm text.old.items terms.old.items (folded term.now) row
+        text.new.items terms.new.items) }
+    ensures err { OnErr result
+        ((text.new.items ≡ text.old.items) × (terms.new.items ≡ terms.old.items)) }
+{
+    let Ok(len) = u32::try_from(term.len()) else {
+        return Err(AllocError);
+    };
+    terms.reserve(1)?;
+    let start = text.len();
+    extend_by_lower_case(text, term)?;
+    let head = head_of(&text[start..]);
+    let Ok(()) = terms.push(Term {
+        head,
+        start,
+        len,
+        row,
+    }) else {
+        unreachable!()
+    };
+    Ok(())
 }
 
 /// Adds a folded term. Fails if the term has 4 GiB or more. An `Err` changes nothing.
@@ -82,6 +125,27 @@ pub(crate) fn push_term(
         unreachable!()
     };
     Ok(())
+}
+
+/// Adds the folding of a term. Fails if it has 4 GiB or more. An `Err` changes nothing.
+fn push_folded(
+    alloc: Global,
+    text: &mut Vec<u8>,
+    terms: &mut Vec<Term>,
+    term: &[u8],
+    row: u32,
+) -> Result<(), AllocError>
+    requires { IsUtf8 term.now }
+    ensures ok { OnOk result (AddsTerm text.old.items terms.old.items (folded term.now) row
+        text.new.items terms.new.items) }
+    ensures err { OnErr result
+        ((text.new.items ≡ text.old.items) × (terms.new.items ≡ terms.old.items)) }
+{
+    if is_ascii(term) {
+        return push_ascii(text, terms, term, row);
+    }
+    let folded = folded(alloc, term)?;
+    push_term(text, terms, folded.as_bytes(), row)
 }
 
 /// Keeps the first `len` terms and their text.
@@ -125,8 +189,8 @@ impl Postings {
     {
         match &row.row.body {
             Body::Description(description) if row.row.active => {
-                let folded = folded(self.alloc, description.term.as_bytes())?;
-                push_term(&mut self.text, &mut self.terms, folded.as_bytes(), number)
+                let term = description.term.as_bytes();
+                push_folded(self.alloc, &mut self.text, &mut self.terms, term, number)
             }
             _ => Ok(()),
         }

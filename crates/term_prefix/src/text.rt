@@ -39,8 +39,8 @@ fn byte_at(text: &[u8], place: usize) -> u8
     if place < text.len() { text[place] } else { 0 }
 }
 
-/// The first 16 bytes as one big-endian number; a shorter text is extended by zeros.
-pub(crate) fn head_of(text: &[u8]) -> u128
+/// The first 16 bytes of a text that has fewer, extended by zeros, as one big-endian number.
+fn head_of_few(text: &[u8]) -> u128
     ensures { result ≡ head 16 text.now }
 {
     u128::from_be_bytes([
@@ -63,6 +63,38 @@ pub(crate) fn head_of(text: &[u8]) -> u128
     ])
 }
 
+/// The first 16 bytes as one big-endian number; a shorter text is extended by zeros.
+pub(crate) fn head_of(text: &[u8]) -> u128
+    ensures { result ≡ head 16 text.now }
+{
+    match text.split_first_chunk::<16>() {
+        Some((first, _)) => u128::from_be_bytes(*first),
+        None => head_of_few(text),
+    }
+}
+
+/// The order of two texts, eight bytes at a time.
+fn compare_texts(a: &[u8], b: &[u8]) -> Ordering
+    ensures { result ≡ slice_cmp nat_cmp a.now b.now }
+{
+    let mut text = a;
+    let mut other = b;
+    while let (Some((x, xs)), Some((y, ys))) = (
+        text.split_first_chunk::<8>(),
+        other.split_first_chunk::<8>(),
+    ) {
+        match u64::from_be_bytes(*x).cmp(&u64::from_be_bytes(*y)) {
+            Ordering::Less => return Ordering::Less,
+            Ordering::Equal => {
+                text = xs;
+                other = ys;
+            }
+            Ordering::Greater => return Ordering::Greater,
+        }
+    }
+    text.cmp(other)
+}
+
 /// The order of two terms, each in the text of its list: by their heads, and by their texts if the
 /// heads are equal.
 pub(crate) fn compare(a_text: &[u8], a: &Term, b_text: &[u8], b: &Term) -> Ordering
@@ -71,7 +103,8 @@ pub(crate) fn compare(a_text: &[u8], a: &Term, b_text: &[u8], b: &Term) -> Order
     match a.head.cmp(&b.head) {
         Ordering::Less => Ordering::Less,
         Ordering::Equal => {
-            piece(a_text, a.start, a.len as usize).cmp(piece(b_text, b.start, b.len as usize))
+            let text = piece(a_text, a.start, a.len as usize);
+            compare_texts(text, piece(b_text, b.start, b.len as usize))
         }
         Ordering::Greater => Ordering::Greater,
     }

@@ -71,6 +71,22 @@ pub(crate) fn compare(a: Key<'_>, b: Key<'_>) -> Ordering
     }
 }
 
+/// Whether two words are the same. Most have few letters, for which a loop takes less time than the
+/// standard library's comparison, which is for long ones.
+fn is_same_word(word: &[u8], other: &[u8]) -> bool
+    ensures { IsTrue result → word.now ≡ other.now }
+{
+    if word.len() != other.len() {
+        return false;
+    }
+    for place in 0..word.len() {
+        if word[place] != other[place] {
+            return false;
+        }
+    }
+    true
+}
+
 /// Whether the two keys are the same.
 pub(crate) fn is_same(a: Key<'_>, b: Key<'_>) -> bool
     ensures { IsTrue result → key_of a.entry ≡ key_of b.entry }
@@ -83,7 +99,7 @@ pub(crate) fn is_same(a: Key<'_>, b: Key<'_>) -> bool
                 type_id: other_type,
             },
         ) => length == other_length && type_id == other_type,
-        (Key::Word(word), Key::Word(other)) => word == other,
+        (Key::Word(word), Key::Word(other)) => is_same_word(word, other),
         _ => false,
     }
 }
