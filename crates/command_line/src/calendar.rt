@@ -1,5 +1,7 @@
 //! Days of the calendar.
 
+ghost use Rattle.std.specs.Prelude.{◌≤◌};
+
 /// The year in which the system's clock begins.
 const FIRST_YEAR: u32 = 1970;
 
@@ -7,7 +9,9 @@ const FIRST_YEAR: u32 = 1970;
 const MONTHS: u32 = (10_000 - FIRST_YEAR) * 12;
 
 /// The number of days of a month.
-fn days_in(year: u32, month: u32) -> u64 {
+fn days_in(year: u32, month: u32) -> u64
+    ensures { result ≤ 31 }
+{
     match month {
         4 | 6 | 9 | 11 => 30,
         2 if is_leap(year) => 29,

@@ -48,12 +48,7 @@ fn is_of_terminology(kind: Kind) -> bool {
 fn has_no_rows(files: &[ReleaseFile]) -> bool
     ensures { IsTrue result ↔ All (λ file. HasRows file.bytes.items → ⊥) files.now }
 {
-    for file in files {
-        if has_rows(&file.bytes) {
-            return false;
-        }
-    }
-    true
+    files.iter().all(|file| !has_rows(&file.bytes))
 }
 
 /// Whether a file has a line after its first.

@@ -75,13 +75,16 @@ impl<'a, H: Host, E: Write> FolderSource<'a, H, E> {
             before,
         };
         match &self.outline {
-            Some(outline) => tell_warnings(alloc, outline, days, store, self.faults),
+            Some(outline) => tell_warnings(alloc, outline, &days, store, self.faults),
             None => tell_uncompared(self.faults),
         }
     }
 
     /// Reports what was taken of a release, and what may be wrong with it by itself.
-    fn tell_read(&mut self, release: &Release, scope: Scope) {
+    fn tell_read(&mut self, release: &Release, scope: Scope)
+        ensures host { self.new.host.now ≡ self.old.host.now }
+        ensures dir { self.new.dir.now ≡ self.old.dir.now }
+    {
         if !self.quiet {
             tell_taken(release, self.faults);
         }

@@ -6,8 +6,8 @@ use crate::outline::{Outline, raise};
 use disk_model::Disk;
 use history_store::{Refusal, Store};
 use question_model::RowQuestion;
-use rf2_values::{EffectiveTime, Kind, Sctid};
-use std::alloc::Global;
+use rf2_values::{EffectiveTime, Kind, Row, Sctid};
+use std::alloc::{AllocFailed, Global};
 use std::collections::{BTreeMap, BTreeSet};
 use std::io::{self, Write};
 
@@ -46,7 +46,7 @@ pub(crate) struct Days {
 pub(crate) fn tell_warnings<D: Disk, E: Write>(
     alloc: Global,
     outline: &Outline,
-    days: Days,
+    days: &Days,
     store: &mut Store<D>,
     faults: &mut E,
 )
@@ -74,7 +74,7 @@ pub(crate) fn tell_uncompared<E: Write>(faults: &mut E) {
 
 /// Warns of a time that is more than a year later than all times that the store had, unless it is
 /// after today, of which people were warned.
-fn warn_of_time<E: Write>(time: Option<u32>, days: Days, faults: &mut E) {
+fn warn_of_time<E: Write>(time: Option<u32>, days: &Days, faults: &mut E) {
     let (Some(time), Some(before)) = (time, days.before) else {
         return;
     };
@@ -93,7 +93,7 @@ store has, up to {before}"
 fn unknown_modules<D: Disk>(
     alloc: Global,
     outline: &Outline,
-    days: Days,
+    days: &Days,
     store: &mut Store<D>,
 ) -> Result<BTreeSet<u64>, Refusal>
     ensures { IsOnlyRead D.view store.old.disk store.new.disk }
@@ -176,7 +176,7 @@ fn write_first<E: Write>(modules: &BTreeSet<u64>, faults: &mut E) -> io::Result<
 fn warn_of_bases<D: Disk, E: Write>(
     alloc: Global,
     outline: &Outline,
-    days: Days,
+    days: &Days,
     store: &mut Store<D>,
     faults: &mut E,
 ) -> Result<(), Refusal>
@@ -209,8 +209,17 @@ fn reached_by<D: Disk>(
     for (module, time) in outline.modules.iter() {
         raise(&mut reached, *module, *time)?;
     }
+    let rows = dependencies(alloc, store)?;
+    raise_by(&mut reached, &rows)?;
+    Ok(reached)
+}
+
+/// The store's rows that say which modules build on others.
+fn dependencies<D: Disk>(alloc: Global, store: &mut Store<D>) -> Result<Vec<Row>, Refusal>
+    ensures { IsOnlyRead D.view store.old.disk store.new.disk }
+{
     let (Some(refset), Some(date)) = (Sctid::of(DEPENDENCIES), EffectiveTime::of(LAST_DAY)) else {
-        return Ok(reached);
+        return Ok(Vec::new(alloc));
     };
     let members = RowQuestion::Members {
         refset,
@@ -219,10 +228,18 @@ fn reached_by<D: Disk>(
         limit: u32::MAX,
     };
     let pin = store.imports();
-    for row in &store.select(&members, pin)? {
-        raise(&mut reached, row.module_id.value(), row.time.value())?;
+    store.select(&members, pin)
+}
+
+/// Notes the effective times of rows, each for the module of its row.
+fn raise_by(
+    reached: &mut BTreeMap<u64, u32>,
+    rows: &[Row],
+) -> Result<(), AllocFailed<(u64, u32)>> {
+    for row in rows {
+        raise(reached, row.module_id.value(), row.time.value())?;
     }
-    Ok(reached)
+    Ok(())
 }
 
 /// The latest time of a module. If no row of dependencies is in it, but the store has its concept,
@@ -230,7 +247,7 @@ fn reached_by<D: Disk>(
 fn latest_of<D: Disk>(
     module: u64,
     reached: &BTreeMap<u64, u32>,
-    days: Days,
+    days: &Days,
     store: &mut Store<D>,
 ) -> Result<Option<u32>, Refusal>
     ensures { IsOnlyRead D.view store.old.disk store.new.disk }
