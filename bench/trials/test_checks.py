@@ -104,7 +104,7 @@ def test_what_an_import_is_told(place: Place, store: Path) -> None:
 @pytest.mark.parametrize("name, numbers, changed, counts, told", (
     ("lacking", NUMBERS[:-1], (), "0 1 0", {10: "the Snapshot has none of this component"}),
     ("more", (*NUMBERS, 11, 12), (), "2 0 0", {
-        11: "the store shows none of this component", 12: "the store shows none of this component"}),
+        11: "the store shows none", 12: "the store shows none"}),
     ("other", NUMBERS, CHANGED, "0 0 2", {3: "the store shows", 7: "the store shows"}),
     ("all", (*NUMBERS[1:], 11), CHANGED, "1 1 2", {
         1: "the Snapshot has none", 3: "the store shows", 7: "the store shows",
