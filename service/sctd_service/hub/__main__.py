@@ -30,8 +30,8 @@ status 1 when the program ends, after the program answered `ERR 2 DiskFault`, an
 takes the place of FILE: what started the hub should then start it again. SIGTERM and SIGINT end it
 with status 0, after the lines that are on their way. Standard error has a line for each import,
 check, comparison, published merge and backup, for each line that took over a second, and for the
-first question of a connection about a day that is yet to come. Once somebody is answered `ERR 8 Damaged`, it says so,
-STATUS ends with `Damaged`, and the hub's status at its end isn't 0.
+first question of a connection about a day that is yet to come. Once somebody is answered
+`ERR 8 Damaged`, it says so, STATUS ends with `Damaged`, and the hub's status at its end isn't 0.
 
 On the socket of `--questions` a user has at most so many connections as `--connections-a-user`
 says (250 if it isn't said), and one that says nothing for ten minutes is closed. The socket that an
