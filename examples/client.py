@@ -8,10 +8,9 @@ The lines have no session number:
 they are, whatever the locale: the store's texts are UTF-8. With --known they are answered as of the
 last import that was made by the end of that day (UTC), written 2020-10-15, as the hub's list of
 imports says; standard error says which import that is, and what is told of a release that a line
-imports or checks. The status is 1 where a line was answered
-`ERR`, where the list doesn't say what was known, where the hub can't be reached or ends before each
-line is answered, and where the replies can't be printed; else it is 0. It takes the folder
-`service/` beside its own.
+imports, checks or compares. The status is 1 where a line was answered `ERR`, where the list doesn't
+say what was known, where the hub can't be reached or ends before each line is answered, and where
+the replies can't be printed; else it is 0. It takes the folder `service/` beside its own.
 """
 
 import argparse
@@ -24,7 +23,7 @@ sys.path.append(str(Path(__file__).resolve().parent.parent / "service"))
 from sctd_service.protocol import NOTE, REFUSED, HubClient, HubFailed, last_line  # noqa: E402
 
 # The lines of whose releases something is told.
-OF_RELEASES = (b"IMPORT ", b"CHECK ")
+OF_RELEASES = (b"IMPORT ", b"CHECK ", b"VERIFY ")
 
 
 def show(reply: bytes) -> None:

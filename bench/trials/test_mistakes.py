@@ -345,7 +345,8 @@ TAKEN = {
 
 
 def takes(place: Place, store: Path, taken: Taken) -> None:
-    files = {f"Terminology/{CONCEPTS}": ROWS, **USUAL, **taken.files}
+    files: dict[str, str | Callable[[Path], object]] = {
+        f"Terminology/{CONCEPTS}": ROWS, **USUAL, **taken.files}
     write(place.releases / "package", files)
     ran = place.run("import", "--store", store, "--releases", "releases", "package")
     lines = ran.faults.splitlines()

@@ -74,8 +74,8 @@ def an_extension(tried: Place) -> Path:
     """A package of another module."""
     package = tried.path("extension")
     days = ("20240131", "20250131")
-    rows = {"C": [concept(number, day, module=EXTENSION) for number in NAMES for day in days],
-            "D": [], "R": [], "A": [], "V": []}
+    rows: dict[str, list[str]] = dict.fromkeys(rf2.KINDS, [])
+    rows["C"] = [concept(number, day, module=EXTENSION) for number in NAMES for day in days]
     rf2.write(str(package / "Full"), "Full", days[-1], rows)
     return package
 
@@ -252,8 +252,8 @@ def test_small_store(place: Place) -> None:
     store = place.make_store("small", layout=3)
     release = write_release(place.path("delta"), {"C": [concept(1)]})
     place.import_one(store, release)
-    rows = {"C": [concept(1)], "D": [description(1, concept_id(1), "a term")],
-            "R": [], "A": [], "V": []}
+    rows: dict[str, list[str]] = dict.fromkeys(rf2.KINDS, [])
+    rows |= {"C": [concept(1)], "D": [description(1, concept_id(1), "a term")]}
     snapshot = place.path("Snapshot")
     rf2.write(str(snapshot), "Snapshot", "20260131", rows)
     found, told = differences(place, store, snapshot)

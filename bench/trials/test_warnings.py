@@ -1,20 +1,21 @@
 """Tries of what in a release people are warned, with the built program: a made package of all sorts
 of files, whose second module builds on the first, in 8 releases, as Fulls and as Deltas. Sound ones
 are imported without a warning, and each of what goes wrong is told by its own sentence, by `import`,
-by `import --check` and, where a store isn't needed for it, by `serve`."""
+by `import --check` and, where a store isn't needed for it, by `serve`; and through the hub."""
 
 from __future__ import annotations
 
 import datetime
 import shutil
 import zlib
+from collections import Counter
 from collections.abc import Callable, Iterator
 from pathlib import Path
 from typing import NamedTuple
 
 import pytest
 
-from harness import Place
+from harness import Client, Hub, Place
 import make_release as rf2
 
 ROWS, SEED = 1_500, 5
@@ -306,6 +307,61 @@ def test_base_of_an_earlier_layout(place: Place, package: Package) -> None:
         place.import_one(base, part)
         store = place.copy(base, f"copy {number}", layout=3)
         assert warnings(place, store, package.part(1, EXTENSION)) == wanted
+
+
+# ---- Through the hub
+
+
+def notes_of(client: Client, line: str) -> list[str]:
+    """What is told beside the reply to a line that is carried out."""
+    *notes, reply = client.ask(line)
+    assert reply.startswith("OK ") and all(note.startswith("NOTE ") for note in notes), reply
+    return [note.removeprefix("NOTE ") for note in notes]
+
+
+def with_a_stranger(release: Path) -> Path:
+    """A release with a row of a module of which nobody has the concept."""
+    _, path = next(rf2.files_of(release, ["D"]))
+    change(path, str(rf2.CORE).encode(), str(STRANGER).encode())
+    return release
+
+
+def cut(release: Path) -> Path:
+    """A release whose file of maps lost the end of its last line."""
+    _, path = next(rf2.files_of(release, ["SimpleMap"]))
+    path.write_bytes(path.read_bytes()[:-3])
+    return release
+
+
+def test_hub(place: Place, package: Package) -> None:
+    """The hub's CHECK tells all, and its IMPORT what needs no store, to who asks for notes; the log
+    has it too. Sound releases are told nothing of."""
+    store = place.make_store(layout=3)
+    no_file = WARNING + "a file of concepts was taken, and no Language file"
+    maps = next(rf2.files_of(package.delta(2), ["SimpleMap"]))[1].name
+    cut_off = f"{WARNING}{maps}: its last line has no end; was the file cut off?"
+    missing = [BUILDS.format(DAYS[4], module, f" later than {DAYS[3]}")
+               for module in (rf2.MODEL, rf2.CORE)]
+    # Releases, what of them needs no store, and what else is told of them.
+    releases: tuple[tuple[Path, list[str], list[str]], ...] = (
+        (package.delta(0), [], []),
+        (without(package.delta(1), "Language"), [no_file], []),
+        (cut(package.delta(2)), [cut_off], []),
+        (without(with_a_stranger(package.delta(3)), "Language"), [no_file],
+         [UNKNOWN.format(STRANGER)]),
+        (package.part(4, EXTENSION), [], missing), (package.part(4, rf2.CORE), [], []))
+    wanted = Counter[str]()
+    with Hub(place, store, releases=place.releases) as hub:
+        client, other = hub.client(), hub.client()
+        assert client.ask("NOTES") == ["OK"]
+        for release, by_itself, beside in releases:
+            name, told = release.name, by_itself + beside
+            assert sorted(notes_of(client, f"CHECK {name}")) == sorted(told), name
+            assert notes_of(other, f"CHECK {name}") == []
+            assert notes_of(client, f"IMPORT {name}") == by_itself, name
+            wanted.update(told + told + by_itself)
+        logged = (line for line in hub.told().splitlines() if line.startswith(WARNING))
+        assert Counter(logged) == wanted
 
 
 # ---- None of it changes what is done

@@ -18,18 +18,20 @@ The program answers one line after the other, and is sent the next ones meanwhil
 client. An import goes alone and keeps the others waiting; a DIGEST doesn't, of which the hub
 hashes pages of rows. `WATCH` is answered `OK` and the number of imports, and the client is told so
 again with each import, before that is answered. `METRICS` is answered with what a monitor counts,
-each line of Prometheus' text as a row. `BACKUP PATH`, on the socket of `--socket`, copies the store
-while questions are answered. When more than N segments stand (100 if not said), the hub merges in
-short steps between the clients' lines; where the store is full, an import waits for a merge.
+each line of Prometheus' text as a row. On the socket of `--socket`, `BACKUP PATH` copies the store
+while questions are answered, and `CHECK NAME` and `VERIFY NAME` are carried out on a copy,
+FILE.checked: what the import of a release would be answered, and in what the store differs from the
+Snapshot of a package. When more than N segments stand (100 if not said), the hub merges in short
+steps between the clients' lines; where the store is full, an import waits for a merge.
 
 Once the store is open, the hub prints `OK ready` (and tells systemd, where that started it). An
 opening that is refused ends the hub with the `ERR` line and the program's status. The hub ends with
 status 1 when the program ends, after the program answered `ERR 2 DiskFault`, and when another file
 takes the place of FILE: what started the hub should then start it again. SIGTERM and SIGINT end it
 with status 0, after the lines that are on their way. Standard error has a line for each import,
-published merge and backup, for each line that took over a second, and for the first question of a
-connection about a day that is yet to come. Once somebody is answered `ERR 8 Damaged`, it says so,
-STATUS ends with `Damaged`, and the hub's status at its end isn't 0.
+check, comparison, published merge and backup, for each line that took over a second, and for the
+first question of a connection about a day that is yet to come. Once somebody is answered
+`ERR 8 Damaged`, it says so, STATUS ends with `Damaged`, and the hub's status at its end isn't 0.
 
 On the socket of `--questions` a user has at most so many connections as `--connections-a-user`
 says (250 if it isn't said), and one that says nothing for ten minutes is closed. The socket that an

@@ -1,17 +1,32 @@
-"""What is told beside a reply, and releases that are checked on a copy of the store, so that no
-other line waits for that."""
+"""What is told beside a reply, and lines for releases that are carried out on a copy of the store,
+so that no other line waits for them."""
 
 import asyncio
 import contextlib
 import os
+import re
 from collections import deque
 from collections.abc import Iterable
+from typing import NamedTuple
 
 from ..logs import pass_on
 from ..protocol import NOTE, last_line
 
-# The lines that the program carries out on a copy, each with the words of the task that does it.
-TASKS = {b"CHECK": ("import", "--check", "--quiet")}
+
+class Task(NamedTuple):
+    """How a line is carried out on a copy: the words of the program's task, and whether the program
+    that serves the store knows the line too, and carries it out where there can be no copy."""
+
+    words: tuple[str, ...]
+    is_served: bool
+
+
+# The lines that are carried out on a copy, each for the release that it names.
+TASKS = {b"CHECK": Task(("import", "--check", "--quiet"), is_served=True),
+         b"VERIFY": Task(("verify",), is_served=False)}
+# What a part of a release's name is made of, and which parts lead to another folder.
+NAME_PART, NO_PARTS = re.compile(rb"[A-Za-z0-9_.-]+"), (b".", b"..")
+NAME_BYTES = 1024
 # What stands behind the store's name in the name of the copy.
 COPY_ENDING = ".checked"
 # How many lines are told beside a reply: the last ones.
@@ -50,6 +65,12 @@ class Told:
         lines = list(self.lines)
         self.lines.clear()
         return lines
+
+
+def is_name(name: bytes) -> bool:
+    """Whether the program takes this as the name of a release."""
+    return len(name) <= NAME_BYTES and all(
+        NAME_PART.fullmatch(part) and part not in NO_PARTS for part in name.split(b"/"))
 
 
 async def carried_out(*words: str | bytes) -> tuple[bytes, bytes]:

@@ -7,6 +7,7 @@ from collections import deque
 from typing import Optional
 
 from ..protocol import CHANGES, QUESTIONS
+from .checking import TASKS
 
 # The program's limit, for a line with the number of its session.
 LINE_LIMIT = 4096
@@ -24,7 +25,7 @@ DATE_DIGITS = 8
 # Lines that the hub carries out itself.
 BACKUP = b"BACKUP"
 # What a line is counted as, by its word.
-KINDS = {word: word.decode() for word in QUESTIONS | CHANGES | {BACKUP}}
+KINDS = {word: word.decode() for word in QUESTIONS | CHANGES | TASKS.keys() | {BACKUP}}
 OTHER = "other"
 # What the hub itself answers. The program's refusals have a number where these have a word.
 TOO_LONG = b"ERR 40 Long\n"

@@ -11,7 +11,7 @@ from typing import Optional
 
 from ..logs import log, pass_on, tell
 from ..protocol import DAMAGED, REFUSED, REPLY, last_line
-from .checking import COPY_ENDING, MOST_NOTES, TASKS, carried_out, with_notes
+from .checking import COPY_ENDING, MOST_NOTES, TASKS, carried_out, is_name, with_notes
 from .imports import ENDING, FIRST_LINE, NOTHING, Hashing, ImportList, sync_folder
 from .lines import BACKUP, first_word, shown, without_cr
 from .program import HUB_SESSION, Program, ProgramEndedError
@@ -20,7 +20,7 @@ from .program import HUB_SESSION, Program, ProgramEndedError
 STEP = b"STEP 1000"
 # The most segments that a store may have.
 MOST_SEGMENTS = 250
-IMPORT = b"IMPORT"
+IMPORT, CHECK = b"IMPORT", b"CHECK"
 # The lines whose replies are logged, and those of which only refusals are.
 LOGGED = (IMPORT, *TASKS, b"PUBLISH")
 LOGGED_REFUSED = (b"MERGE", b"STEP", b"ABANDON", b"TRIM")
@@ -68,7 +68,7 @@ class Store:
     async def change(self, session: int, line: bytes, user: str = "hub") -> bytes:
         """The reply to a line that may change the store, once it is logged."""
         word = first_word(line)
-        asking = (self.imported if word == IMPORT else self.checked_release if word in TASKS
+        asking = (self.imported if word == IMPORT else self.on_a_copy if word in TASKS
                   else self.asked)
         try:
             reply = await asking(session, line, user)
@@ -104,45 +104,49 @@ class Store:
             reply = await self.program.ask(session, line, user, alone=True)
             return reply, self.program.notes.taken()
 
-    async def checked_release(self, session: int, line: bytes, user: str) -> bytes:
-        """The reply to the check of an import, with what is told of it: by another program on a
-        copy of the store, so that no other line waits for it, or by this one where there can be no
-        copy."""
-        name = name_in(line)
-        async with self.checks, contextlib.AsyncExitStack() as until_checked:
+    async def on_a_copy(self, session: int, line: bytes, user: str) -> bytes:
+        """The reply to a line for a release, with what is told of it: by another program on a copy
+        of the store, so that no other line waits for it, or by this one where there can be no copy.
+        """
+        word, name = first_word(line), name_in(line)
+        async with self.checks, contextlib.AsyncExitStack() as until_done:
             async with self.imports_lock:
                 await self.make_room()
-                copy = await self.copy_for(name)
-                if copy is None:
-                    reply, notes = await self.asked_and_told(session, line, user)
-                    return with_notes(notes, reply)
-            until_checked.callback(copy.end)
+                if not is_name(name):
+                    # The program refuses it, as it does for an import.
+                    return await self.served(session, CHECK + line[len(word):], user)
+                try:
+                    copy = await self.new_copy()
+                except Refused as why:
+                    log("no copy to check on: %s" % why)
+                    if TASKS[word].is_served:
+                        return await self.served(session, line, user)
+                    return b"ERR hub %s no copy: %s\n" % (word.title(), str(why).encode())
+            until_done.callback(copy.end)
             began = time.monotonic()
             said, told = await carried_out(
-                self.command, *TASKS[first_word(line)], "--store", copy.path, "--releases",
+                self.command, *TASKS[word].words, "--store", copy.path, "--releases",
                 self.releases, "--", name)
             self.program.metrics.took(b"%d %s" % (session, line), time.monotonic() - began)
         pass_on(told)
         if not REPLY.fullmatch(said):
-            said = b"ERR hub Check the program ended\n"
+            said = b"ERR hub %s the program ended\n" % word.title()
         if said.startswith(DAMAGED):
             self.program.note_damage(shown(without_cr(line)), user, said[:-1])
         return with_notes(told.splitlines()[-MOST_NOTES:], said)
 
-    async def copy_for(self, name: bytes) -> "Optional[NewFile]":
-        """A copy of the store to check a release on; none where there is no folder of this name,
-        or no copy can be made."""
+    async def served(self, session: int, line: bytes, user: str) -> bytes:
+        """The reply of the program that serves the store, with what it told."""
+        reply, notes = await self.asked_and_told(session, line, user)
+        return with_notes(notes, reply)
+
+    async def new_copy(self) -> "NewFile":
+        """A copy of the store, for one line for a release."""
         path = self.path + COPY_ENDING
-        if b"/" in name or not os.path.isdir(os.path.join(os.fsencode(self.releases), name)):
-            return None
         with contextlib.suppress(OSError):
             os.unlink(path)  # A hub that was killed may have left one.
-        try:
-            async with self.changes:
-                return await self.in_thread(Copying(self.path, self.file, path, is_kept=False))
-        except Refused as why:
-            log("no copy to check on: %s" % why)
-            return None
+        async with self.changes:
+            return await self.in_thread(Copying(self.path, self.file, path, is_kept=False))
 
     async def in_thread(self, copying: "Copying") -> "NewFile":
         """Makes a copy while the loop goes on."""
