@@ -232,10 +232,7 @@ fn dependencies<D: Disk>(alloc: Global, store: &mut Store<D>) -> Result<Vec<Row>
 }
 
 /// Notes the effective times of rows, each for the module of its row.
-fn raise_by(
-    reached: &mut BTreeMap<u64, u32>,
-    rows: &[Row],
-) -> Result<(), AllocFailed<(u64, u32)>> {
+fn raise_by(reached: &mut BTreeMap<u64, u32>, rows: &[Row]) -> Result<(), AllocFailed<(u64, u32)>> {
     for row in rows {
         raise(reached, row.module_id.value(), row.time.value())?;
     }
