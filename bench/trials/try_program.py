@@ -30,6 +30,7 @@ SCRIPTS: list[tuple[str, ...]] = [
     ("trials/by_pytest.py", "files", "cache", "syncs"),
     ("trials/by_pytest.py", "sessions", "crowds", "digests", "openings"),
     ("trials/by_pytest.py", "duties", "copies"),
+    ("trials/by_pytest.py", "checks", "verify", "warnings"),
     ("trials/by_pytest.py", "imports"),
     ("trials/by_pytest.py", "readers", "exports", "editions"),
     ("trials/by_pytest.py", "operators"),
