@@ -11,7 +11,7 @@ from urllib.parse import urlencode
 import pytest
 from make_release import sctid
 from sctd_service.gateway import languages, limits, refsets
-from sctd_service.gateway.hub import HubGone
+from sctd_service.gateway.hub import HubGone, Reply
 from sctd_service.gateway.page_history import Names
 from sctd_service.gateway.page_members import memberships, refset_entries
 from sctd_service.gateway.pool import Codes, Member, Session
@@ -643,12 +643,14 @@ class ManyMembers(View):
         self.session = cast(Session, NothingRemembered())
         self.count, self.asked = count, list[str]()
 
-    async def values(self, refset: str, day: str, after: str,
-                     keep: bool = True) -> list[RefsetMember]:
+    async def told(self, line: str, keep: bool = True) -> Reply:
+        *_, after, limit = line.split(" ")
+        assert line.startswith("VALUES ")
         self.asked.append(after)
         first = 0 if after == "-" else int(after) // 1000
-        last = min(first + limits.QUESTION_ROWS, self.count)
-        return [member("%d000" % number) for number in range(first + 1, last + 1)]
+        last = min(first + int(limit), self.count)
+        rows = ("ROW m\t20150131\t1\t1\t2\t%d000" % number for number in range(first + 1, last + 1))
+        return (*rows, "END %d" % (last - first))
 
     async def members(self, codes: Sequence[str], day: str, keep: bool = True) -> list[Member]:
         return [Member(code, code.endswith("2000")) for code in codes]

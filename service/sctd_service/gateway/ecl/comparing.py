@@ -1,7 +1,5 @@
 """When a text, a number or a day fits what an expression compares it with."""
 
-from __future__ import annotations
-
 import operator
 import re
 import unicodedata

@@ -11,21 +11,19 @@ Each step is asked for all concepts that it means, or for those among some: then
 these alone where they are few. So one code is tested without making the set that it may be in.
 """
 
-from __future__ import annotations
-
 from collections.abc import Iterable, Sequence
 
 from . import syntax as s
 from .. import limits
 from . import filtering, refining
 from .fields import Fields
+from .planning import NOTHING
 from .syntax import Ids
 from .terminology import Terminology
 from ..store import TooManyTerms
 from ...snomed import (
     PARTIALLY_EQUIVALENT_TO, REPLACED_BY, SAME_AS, WAS_A, Description, is_id_of_concept)
 
-NOTHING: Ids = frozenset()
 # The association reference sets of a profile; None is every one.
 PROFILES = {
     s.MIN: frozenset([SAME_AS]),
@@ -106,14 +104,14 @@ class Evaluation:
         return own | await self.reached(of, operator[0] == "<")
 
     async def next_ones(self, of: Ids, is_down: bool) -> Ids:
-        found = await (self.store.children(of) if is_down else self.store.parents(of))
+        found = await (self.store.near("CHILDREN", of) if is_down else self.store.parents(of))
         return union(found.values())
 
     async def reached(self, of: Ids, is_down: bool) -> Ids:
         """All below these concepts, or above them. Of many each step is asked once."""
         if are_few(of):
-            ask = self.store.descendants if is_down else self.store.ancestors
-            return union((await ask(of)).values())
+            question = "DESCENDANTS" if is_down else "ANCESTORS"
+            return union((await self.store.near(question, of)).values())
         found, seen, left = NOTHING, of, of
         while left:
             next_ones = await self.next_ones(left, is_down)
@@ -127,12 +125,13 @@ class Evaluation:
         above."""
         if operator == s.BOTTOM:
             among = await self.meant(of, among)
-            near = await self.store.descendants(among)
-        elif operator[-1] == "!":
-            is_child = operator[0] == "<"
-            near = await (self.store.parents(among) if is_child else self.store.children(among))
+            near = await self.store.near("DESCENDANTS", among)
+        elif operator[-1] != "!":
+            near = await self.store.near("ANCESTORS", among)
+        elif operator[0] == "<":
+            near = await self.store.parents(among)
         else:
-            near = await self.store.ancestors(among)
+            near = await self.store.near("CHILDREN", among)
         own = await self.meant(of, union(near.values()) | among)
         if operator in (s.TOP, s.BOTTOM):
             return frozenset(code for code in among & own if not near[code] & own)

@@ -5,10 +5,9 @@ lines of files: a field is called as RefsetDescriptor names it, with or without 
 target`: mapTarget), and a map's and an only one as RF2 calls it where that isn't contradicted.
 """
 
-from __future__ import annotations
-
 import re
 from collections.abc import Callable, Iterable, Sequence
+from operator import attrgetter
 
 from .terminology import Terminology
 from ..problems import not_supported
@@ -16,11 +15,10 @@ from ..refsets import EXTENDED_MAP
 from ...snomed import ASSOCIATIONS, RefsetMember
 
 Said = Callable[[RefsetMember], str | None]
-# Those of each member.
-OWN: dict[str, Said] = {
-    "id": lambda row: row.id, "effectivetime": lambda row: row.time,
-    "active": lambda row: row.active, "moduleid": lambda row: row.module,
-    "refsetid": lambda row: row.refset, "referencedcomponentid": lambda row: row.component}
+# Those of each member, by what a row calls them.
+OWN = {name: attrgetter(own) for name, own in (
+    ("id", "id"), ("effectivetime", "time"), ("active", "active"), ("moduleid", "module"),
+    ("refsetid", "refset"), ("referencedcomponentid", "component"))}
 # What an only further one may be called, and that of an association.
 ONLY = frozenset(["acceptabilityid", "maptarget", "owlexpression", "valueid"])
 TARGET = frozenset(["targetcomponentid"])

@@ -5,9 +5,8 @@
   concepts directly behind `*`.
 """
 
-from __future__ import annotations
-
 from collections.abc import Callable, Iterable, Sequence
+from operator import attrgetter
 from typing import TypeVar
 
 from . import syntax as s
@@ -22,15 +21,11 @@ BITS = {True: "1", False: "0"}
 Row = TypeVar("Row", Concept, Description, RefsetMember)
 # What a row says that a filter asks for, or nothing where it has no such field.
 Said = Callable[[Row], str | None]
-CONCEPT_FIELDS: dict[str, Said[Concept]] = {
-    ACTIVE: lambda row: row.active, "moduleId": lambda row: row.module,
-    EFFECTIVE_TIME: lambda row: row.time,
-    "definitionStatusId": lambda row: row.definition_status}
-DESCRIPTION_FIELDS: dict[str, Said[Description]] = {
-    ACTIVE: lambda row: row.active, "moduleId": lambda row: row.module,
-    EFFECTIVE_TIME: lambda row: row.time, "id": lambda row: row.id,
-    "language": lambda row: row.language, "typeId": lambda row: row.type,
-    TERM: lambda row: row.term}
+# The fields of concepts and of descriptions by what a row calls them.
+FIELDS = {name: attrgetter(own) for name, own in (
+    (ACTIVE, "active"), ("moduleId", "module"), (EFFECTIVE_TIME, "time"), ("id", "id"),
+    ("definitionStatusId", "definition_status"), ("language", "language"), ("typeId", "type"),
+    (TERM, "term"))}
 
 
 def asks_active(filters: Iterable[s.Filter]) -> bool:
@@ -39,7 +34,7 @@ def asks_active(filters: Iterable[s.Filter]) -> bool:
 
 async def concepts(meant: Meant, rows: Sequence[Concept], filters: Sequence[s.Filter]) -> Ids:
     for one in filters:
-        rows = await filtered(meant, rows, one, CONCEPT_FIELDS[one.name])
+        rows = await filtered(meant, rows, one, FIELDS[one.name])
     return frozenset(row.id for row in rows)
 
 
@@ -62,7 +57,7 @@ async def described(store: Terminology, meant: Meant, rows: Sequence[Description
         if one.name == DIALECT:
             rows = await in_dialects(store, meant, rows, one)
         else:
-            rows = await filtered(meant, rows, one, DESCRIPTION_FIELDS[one.name])
+            rows = await filtered(meant, rows, one, FIELDS[one.name])
     return frozenset(row.concept for row in rows)
 
 

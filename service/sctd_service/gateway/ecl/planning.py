@@ -5,8 +5,6 @@
 concept of the focus, only what is found so has to be looked at.
 """
 
-from __future__ import annotations
-
 import math
 from collections.abc import Callable, Iterable
 from typing import NamedTuple

@@ -5,8 +5,6 @@
 - As an attribute's name, and as its value, `*` is any concept, also an inactive one.
 """
 
-from __future__ import annotations
-
 from collections.abc import Callable, Iterable, Mapping
 
 from . import syntax as s

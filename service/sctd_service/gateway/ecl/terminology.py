@@ -1,8 +1,6 @@
 """What the evaluation of an expression asks the store, as of one pin and one day. Nothing else of
 `ecl` asks anything."""
 
-from __future__ import annotations
-
 import asyncio
 import itertools
 from collections.abc import AsyncIterator, Callable, Collection, Iterable, Sequence
@@ -11,7 +9,7 @@ from typing import NamedTuple, TypeVar
 from .. import limits, refsets
 from ..hub import Reply
 from ..problems import too_costly
-from ..store import FIRST, View, columns_of, ids, member_of, members_of, rows
+from ..store import FIRST, REFERENCED, Row, View, columns_of, ids, member_of, members_of, rows
 from ...snomed import (
     ASSOCIATIONS, IS_A, Association, Concept, Description, RefsetMember, Relationship,
     is_id_of_concept)
@@ -21,9 +19,9 @@ Item = TypeVar("Item")
 # The kinds of relationships: with a concept as value, and with a concrete one.
 TO_CONCEPTS, CONCRETE = "R", "V"
 ANY_TYPE = "-"
-# Where a row has whether it is active, the concept of a description, the source and the destination
-# of a relationship, and what a member refers to.
-ACTIVE, DESCRIBED, SOURCE, DESTINATION, REFERENCED = 2, 4, 4, 5, 5
+# Where a row has whether it is active, the concept of a description, and the source and the
+# destination of a relationship.
+ACTIVE, DESCRIBED, SOURCE, DESTINATION = 2, 4, 4, 5
 # The sources of relationships, by their destinations.
 Sources = dict[str, set[str]]
 
@@ -99,6 +97,12 @@ class Terminology:
         async for reply in self.replies(lines):
             yield next(left), reply
 
+    async def rows(self, question: str, kind: type[Row],
+                   codes: Collection[str]) -> AsyncIterator[Row]:
+        async for _, reply in self.told(question, codes):
+            for row in rows(kind, reply):
+                yield row
+
     async def pages(self, question: str, place: int = 0) -> AsyncIterator[list[list[str]]]:
         """The rows of all pages of a question, which goes on behind what stands at a place."""
         after = FIRST
@@ -130,22 +134,13 @@ class Terminology:
         wanted = frozenset(filter(is_id_of_concept, codes))
         if len(wanted) > limits.ASKED_ONE_BY_ONE:
             return [row async for row in self.every_concept() if row.id in wanted]
-        return [
-            row async for _, reply in self.told("GET C", wanted) for row in rows(Concept, reply)]
+        return [row async for row in self.rows("GET C", Concept, wanted)]
 
     # ---- the hierarchy
 
-    async def each(self, question: str, codes: Collection[str]) -> dict[str, Ids]:
+    async def near(self, question: str, codes: Collection[str]) -> dict[str, Ids]:
+        """What CHILDREN, DESCENDANTS or ANCESTORS says of each of the codes."""
         return {code: frozenset(ids(reply)) async for code, reply in self.told(question, codes)}
-
-    async def children(self, codes: Collection[str]) -> dict[str, Ids]:
-        return await self.each("CHILDREN", codes)
-
-    async def descendants(self, codes: Collection[str]) -> dict[str, Ids]:
-        return await self.each("DESCENDANTS", codes)
-
-    async def ancestors(self, codes: Collection[str]) -> dict[str, Ids]:
-        return await self.each("ANCESTORS", codes)
 
     async def parents(self, codes: Collection[str]) -> dict[str, Ids]:
         said = await self.relationships(codes, TO_CONCEPTS)
@@ -208,7 +203,7 @@ class Terminology:
         if types is not None:
             return await self.linked(types - {IS_A}, destinations)
         found = await self.linked([ANY_TYPE], destinations)
-        below = await self.children(destinations)
+        below = await self.near("CHILDREN", destinations)
         doubtful = frozenset(one for code, some in found.items() for one in some & below[code])
         said = await self.relationships(doubtful, TO_CONCEPTS)
         for code, some in found.items():
@@ -243,9 +238,8 @@ class Terminology:
             async for row in self.rows_of_pages("PAGE D", codes, DESCRIBED):
                 yield Description(*row)
         else:
-            async for _, reply in self.told("ABOUT D", codes):
-                for one in rows(Description, reply):
-                    yield one
+            async for one in self.rows("ABOUT D", Description, codes):
+                yield one
 
     async def with_words(self, texts: Iterable[str]) -> list[Description]:
         """The active descriptions of which a term has the words of one of the texts."""
@@ -274,16 +268,14 @@ class Terminology:
 
     async def replaced(self, codes: Collection[str]) -> list[Association]:
         """The active associations of these concepts."""
-        return [row async for _, reply in self.told("REPLACED", codes)
-                for row in rows(Association, reply)]
+        return [row async for row in self.rows("REPLACED", Association, codes)]
 
     async def replacing(self, codes: Ids) -> list[Association]:
         """The active associations of which one of the concepts is the target."""
         if len(codes) > limits.ASKED_ONE_BY_ONE:
             return [row for row in await self.associations()
                     if row.active == "1" and row.target in codes]
-        return [row async for _, reply in self.told("REPLACES", codes)
-                for row in rows(Association, reply)]
+        return [row async for row in self.rows("REPLACES", Association, codes)]
 
     async def codes_of(self, refset: str) -> Ids:
         """The concepts that active members of a reference set refer to."""
@@ -309,7 +301,6 @@ class Terminology:
                     yield member_of([*one])
 
     async def columns(self, counts: dict[str, int]) -> refsets.Columns:
-        """What the further fields of reference sets are called, of each that has so many."""
         self.must_have_room(len(counts))
         return await refsets.columns_of(self.view, counts, self.day)
 

@@ -81,40 +81,39 @@ def code_system(edition: Edition, day: str, is_latest: bool) -> Json:
 async def value_set(request: OperationRequest, address: str, version: str | None = None) -> Json:
     """The value set of an address, which has to be there."""
     found = value_set_of(address)
-    moment = request.moment(*found.versions, version)
+    asked = request.at(*found.versions, version)
     if found.sort is Sort.WITHIN:
-        await request.must_have(found.code, moment)
+        await asked.must_have(found.code)
     elif found.sort is Sort.IN_REFSET:
-        await must_be_kept(request, found.code, moment)
+        await must_be_kept(asked, found.code)
     form = found.url.partition("?")[2].removesuffix(found.code)
     include: Json = {"system": SCT}
     if found.expression:
         one = {"property": CONSTRAINT, "op": IS, "value": spelled(found.expression)}
         # (It has no id, since an expression can't be written as one.)
         return {
-            "resourceType": VALUE_SET, "url": found.url, "version": moment.version,
+            "resourceType": VALUE_SET, "url": found.url, "version": asked.moment.version,
             "name": EXPRESSION_NAME, "status": "active",
             "compose": {"include": [{**include, "filter": [one]}]}}
     if found.sort in OPS:
         include["filter"] = [{"property": "concept", "op": OPS[found.sort], "value": found.code}]
     # (That reference sets are asked for can't be said by a filter.)
     compose = {} if found.sort is Sort.ARE_REFSETS else {"compose": {"include": [include]}}
-    return {**named(VALUE_SET, found.url, form, found.code, moment), **compose}
+    return {**named(VALUE_SET, found.url, form, found.code, asked.moment), **compose}
 
 
 async def concept_map(request: OperationRequest, address: str, version: str | None = None) -> Json:
-    base, own_version, refset = map_of(address)
-    moment = request.moment(base, own_version, version)
+    versions, refset = map_of(address)
+    asked = request.at(*versions, version)
     if refset and refset not in MAPS:
-        system = systems_of(request).get(refset)
-        asked = Asked(base, (refset,), "", moment, False, None, None)
-        await must_be_a_map(request, asked, refset, system)
-        await must_be_kept(request, refset, moment)
+        own = Asked(versions[0], (refset,), "", False, None, None)
+        await must_be_a_map(asked, own, refset, systems_of(request).get(refset))
+        await must_be_kept(asked, refset)
     url = address.partition("|")[0]
     form = url.partition("?")[2].removesuffix(refset)
     targets = {} if refset and refset not in MAPS else {"targetUri": SCT + "?fhir_vs"}
     return {
-        **named(CONCEPT_MAP, url, form, refset, moment), "sourceUri": SCT + "?fhir_vs", **targets}
+        **named(CONCEPT_MAP, url, form, refset, asked.moment), "sourceUri": SCT + "?fhir_vs", **targets}
 
 
 def named(kind: str, url: str, form: str, code: str, moment: Moment) -> Json:

@@ -1,6 +1,6 @@
 """What one operation is asked, and of which state of the store."""
 
-from typing import NamedTuple
+from dataclasses import dataclass
 
 from ..languages import language_of
 from ..problems import Problem, not_found
@@ -10,17 +10,20 @@ from .inputs import Query
 from .versions import Edition, Moment
 
 
-class OperationRequest(NamedTuple):
+@dataclass(frozen=True)
+class OperationRequest:
     """An operation's parameters, the store as the request sees it, and the store's edition."""
 
     edition: Edition
     view: View
     query: Query
 
-    def moment(self, *versions: str | None) -> Moment:
-        """The moment of the answer; `date` is that of the record where the operation knows it."""
+    def at(self, *versions: str | None) -> "Dated":
+        """The request with the moment of its answer; `date` is that of the record where the
+        operation knows it."""
         named = [*versions, *self.query.canonical]
-        return self.edition.moment(self.view, named, self.query.text("date"))
+        moment = self.edition.moment(self.view, named, self.query.text("date"))
+        return Dated(self.edition, self.view, self.query, moment)
 
     def language(self) -> Language:
         """The language of `displayLanguage`, which HAPI calls `language`, or those of the house
@@ -29,19 +32,28 @@ class OperationRequest(NamedTuple):
         house = self.edition.languages
         return Language("", house) if tag is None else language_of(tag, house)
 
-    async def facts(self, code: str, moment: Moment, language: Language,
-                    with_members: bool) -> Facts:
+
+@dataclass(frozen=True)
+class Dated(OperationRequest):
+    """A request whose answer is of a moment."""
+
+    moment: Moment
+
+    @property
+    def day(self) -> str:
+        return self.moment.day
+
+    async def facts(self, code: str, language: Language, with_members: bool) -> Facts:
         """What is said of a code that has to be there."""
-        found = await self.view.facts(code, moment.day, language, with_members)
+        found = await self.view.facts(code, self.day, language, with_members)
         if found is None:
-            raise not_there(code, moment)
+            raise self.not_there(code)
         return found
 
-    async def must_have(self, code: str, moment: Moment) -> None:
-        if not await self.view.has(code, moment.day):
-            raise not_there(code, moment)
+    async def must_have(self, code: str) -> None:
+        if not await self.view.has(code, self.day):
+            raise self.not_there(code)
 
-
-def not_there(code: str, moment: Moment) -> Problem:
-    why = "; expressions aren't read" if ":" in code else ""
-    return not_found("the code %.60r isn't in %s%s" % (code, moment.version, why))
+    def not_there(self, code: str) -> Problem:
+        why = "; expressions aren't read" if ":" in code else ""
+        return not_found("the code %.60r isn't in %s%s" % (code, self.moment.version, why))

@@ -9,9 +9,8 @@ from ...snomed import SIMPLE_MAP, Language, is_concept_id
 from ..problems import Json, Problem, conflict, not_found, not_supported
 from .inputs import SCT, CodeNames, not_here
 from .outputs import concrete, dated, parameter, parameters
-from .request import OperationRequest
-from .valuesets import CANONICAL, ValueSet, inside, is_of_snomed, must_be_kept, value_set_of
-from .versions import Moment
+from .request import Dated, OperationRequest
+from .valuesets import ValueSet, inside, must_be_kept, parted, value_set_of
 
 # What a target means beside the code, as R4's ConceptMapEquivalence has it.
 EQUAL, EQUIVALENT, INEXACT, RELATED = "equal", "equivalent", "inexact", "relatedto"
@@ -65,14 +64,12 @@ CORRELATIONS = {
 
 
 class Asked(NamedTuple):
-    """A code that is to be translated, by maps of which version, on which day, the other way round
-    or not, among which concepts the targets have to be, and of which code system, if one is
-    named."""
+    """A code that is to be translated, by maps of which version, the other way round or not, among
+    which concepts the targets have to be, and of which code system, if one is named."""
 
     base: str
     refsets: Sequence[str]
     code: str
-    moment: Moment
     is_reverse: bool
     target: ValueSet | None
     system: str | None
@@ -83,28 +80,28 @@ class Asked(NamedTuple):
 
 async def translate(request: OperationRequest) -> Json:
     query = request.query
-    base, version, refset = map_of(query.text("url") or SCT + "?" + BARE)
+    versions, refset = map_of(query.text("url") or SCT + "?" + BARE)
     codings = [one for one in query.codings(CodeNames()) if one.system == SCT]
     if not codings:
         raise not_found("no code is one of %s" % SCT)
     if source := query.text("source"):
         value_set_of(source)  # (It is all of SNOMED CT, or a part of it.)
     system, target = targets_of(request)
-    versions = (codings[0].version, *map(query.text, ("version", "conceptMapVersion")))
-    moment = request.moment(*versions, base, version, *(target.versions if target else ()))
+    dated_request = request.at(
+        codings[0].version, query.text("version"), query.text("conceptMapVersion"), *versions,
+        *(target.versions if target else ()))
     asked = Asked(
-        base, refsets_for(request, refset, system), codings[0].code, moment,
-        query.flag("reverse"), target, system)
+        versions[0], refsets_for(request, refset, system), codings[0].code, query.flag("reverse"),
+        target, system)
     if not MAPS.keys() >= set(asked.refsets):
-        return await mapped(request, asked)
+        return await mapped(dated_request, asked)
     if system not in (None, SCT):
         raise not_here(str(system))
-    await request.must_have(asked.code, moment)
-    return await replaced(request, asked)
+    await dated_request.must_have(asked.code)
+    return await replaced(dated_request, asked)
 
 
 def systems_of(request: OperationRequest) -> dict[str, str]:
-    """The code systems to which maps lead."""
     return {ICD_10: ICD_10_SYSTEM, **request.edition.maps}
 
 
@@ -134,25 +131,25 @@ def refsets_for(request: OperationRequest, refset: str, system: str | None) -> S
     return found
 
 
-async def replaced(request: OperationRequest, asked: Asked) -> Json:
+async def replaced(request: Dated, asked: Asked) -> Json:
     """What took the place of a code, or whose place it took, by historical associations."""
-    view, day, code = request.view, asked.moment.day, asked.code
+    view, day, code = request.view, request.day, asked.code
     ask = view.replaced_by if asked.is_reverse else view.associations
     rows = [row for row in (await ask([code], day))[0] if row.refset in asked.refsets]
     found = [(row.refset, row.source if asked.is_reverse else row.target) for row in rows]
     if asked.target:
         among = [other for _, other in found if is_concept_id(other)]
-        inner = await inside(request, asked.target, among, asked.moment)
+        inner = await inside(request, asked.target, among)
         found = [one for one in found if one[1] in inner]
     names = await view.names(
         [other for _, other in found], day, Language("", request.edition.languages))
-    matches, version = [], asked.moment.version
+    matches, version = [], request.moment.version
     for refset, other in sorted(found, key=lambda one: [*MAPS].index(one[0])):
         means = MAPS[refset].equivalence
         concept = {"system": SCT, "version": version, "code": other, "display": names[other]}
         means = REVERSED.get(means, means) if asked.is_reverse else means
         matches.append(match(asked.url(refset), means, concept))
-    return translated(asked, matches, why_not(asked, {refset for refset, _ in found}))
+    return translated(request, matches, why_not(asked, {refset for refset, _ in found}))
 
 
 def why_not(asked: Asked, found: set[str]) -> str:
@@ -166,7 +163,7 @@ def why_not(asked: Asked, found: set[str]) -> str:
     return ""
 
 
-async def mapped(request: OperationRequest, asked: Asked) -> Json:
+async def mapped(request: Dated, asked: Asked) -> Json:
     """What simple and extended maps have for a code. The release doesn't say of which code system
     that is, so but for ICD-10 an answer says it only where the house has said it."""
     if asked.is_reverse or asked.target:
@@ -177,22 +174,21 @@ async def mapped(request: OperationRequest, asked: Asked) -> Json:
         system = systems_of(request).get(refset)
         await must_be_a_map(request, asked, refset, system)
         if members is None:
-            await request.must_have(asked.code, asked.moment)
-            members = (await request.view.members_about([asked.code], asked.moment.day))[0]
+            await request.must_have(asked.code)
+            members = (await request.view.members_about([asked.code], request.day))[0]
         of_map = [row.further for row in members if row.refset == refset]
         if not of_map and len(asked.refsets) == 1:
-            await must_be_kept(request, refset, asked.moment)
+            await must_be_kept(request, refset)
         for row in rows_of_map(refset, of_map):
             kept = kept or bool(row[TARGET])
             told += [row["mapAdvice"]] if row.get("mapAdvice") else []
             matches += target_of(asked.url(refset), row, system)
     why = "" if kept else "the map has no target for the code on that day"
-    return translated(asked, matches, why, told)
+    return translated(request, matches, why, told)
 
 
-async def must_be_a_map(request: OperationRequest, asked: Asked, refset: str,
-                        system: str | None) -> None:
-    if system is None and not await request.view.is_within(refset, SIMPLE_MAP, asked.moment.day):
+async def must_be_a_map(request: Dated, asked: Asked, refset: str, system: str | None) -> None:
+    if system is None and not await request.view.is_within(refset, SIMPLE_MAP, request.day):
         raise not_a_map(asked.url(refset))
     if asked.system not in (None, system):
         raise not_found("the code system %.100r isn't said to be that of the map" % asked.system)
@@ -221,16 +217,14 @@ def target_of(url: str, row: dict[str, str], system: str | None) -> list[Json]:
     return [match(url, means if concept else UNMATCHED, concept, said)]
 
 
-def map_of(address: str) -> tuple[str, str | None, str]:
-    """What the address of a map names: its version, one behind it, and its reference set, which is
-    nothing for all historical associations."""
-    canonical = CANONICAL.match(address)
-    url, *named = canonical.groups() if canonical else (address,)
-    base, _, what = url.partition("?")
+def map_of(address: str) -> tuple[Sequence[str], str]:
+    """What the address of a map names: its versions, and its reference set, which is nothing for
+    all historical associations."""
+    url, what, versions = parted(address)
     refset = what.removeprefix(FORM)
-    if not is_of_snomed(base) or what != BARE and (refset == what or not is_concept_id(refset)):
+    if what != BARE and (refset == what or not is_concept_id(refset)):
         raise not_a_map(url)
-    return base, next(iter(named), None), "" if what == BARE else refset
+    return versions, "" if what == BARE else refset
 
 
 def not_a_map(url: str) -> Problem:
@@ -238,11 +232,12 @@ def not_a_map(url: str) -> Problem:
                      % (url, SCT, FORM, ICD_10, ", ".join(MAPS)))
 
 
-def translated(asked: Asked, matches: Sequence[Json], why: str, advice: Sequence[str] = ()) -> Json:
+def translated(request: Dated, matches: Sequence[Json], why: str,
+               advice: Sequence[str] = ()) -> Json:
     texts = [why] if why else list(advice)
     message = [parameter("message", valueString="; ".join(texts))] if texts else []
     said = [parameter("result", valueBoolean=not why), *message]
-    return parameters([*said, *dated(asked.moment), *matches])
+    return parameters([*said, *dated(request.moment), *matches])
 
 
 def match(url: str, equivalence: str, concept: Json, said: Sequence[Json] = ()) -> Json:
