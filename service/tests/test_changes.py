@@ -15,7 +15,7 @@ from sctd_service.gateway.page_changes import Between, answer, changed_by_concep
 from sctd_service.gateway.hub import Reply
 from sctd_service.gateway.problems import Problem
 from sctd_service.gateway.store import ANY, AnyRow, View
-from sctd_service.gateway.tables import guarded
+from sctd_service.gateway.frame import guarded
 from sctd_service.snomed import Concept, Language
 
 from .asked import Asked

@@ -12,8 +12,7 @@ import pytest
 from make_release import sctid
 from sctd_service.gateway import languages, limits, refsets
 from sctd_service.gateway.hub import HubGone, Reply
-from sctd_service.gateway.page_history import Names
-from sctd_service.gateway.page_members import memberships, refset_entries
+from sctd_service.gateway.page_history import Names, memberships, refset_entries
 from sctd_service.gateway.pool import Codes, Member, Session
 from sctd_service.gateway.problems import NO_MEMBERS, Problem
 from sctd_service.snomed import RefsetMember

@@ -271,7 +271,8 @@ class TestPage(Asked):
         before, new = codes[:-1], codes
         named = told_first(new, before)
         assert len(named) == limits.TOLD_CONCEPTS and named[0] == codes[-1]
-        sides = [Side("20200101", True, None, {code: code for code in told_first(own, other)})
+        sides = [Side("20200101", True, None,
+                      Names({code: code for code in told_first(own, other)}, {}))
                  for own, other in ((before, new), (new, before))]
         first, second = (side.some_of(own, side.link) for side, own in zip(sides, (before, new)))
         assert [key for key in second if key not in first] == [codes[-1]]

@@ -1,11 +1,13 @@
-"""What all pages have in common: the frame with its title and links, the forms, and days.
+"""What all pages have in common: the frame with its title and links, the forms, days, and tables.
 
 Everything is made on the server, so the pages work without a script.
 """
 
 import asyncio
+import csv
+import io
 import re
-from collections.abc import Callable, Mapping, Sequence
+from collections.abc import Callable, Iterable, Mapping, Sequence
 from pathlib import Path
 from typing import NamedTuple, TypeVar
 
@@ -31,6 +33,9 @@ WORDS = {RECORD: ("q", "date", "other", "first", "known"),
 TITLE = "The record as it stood"
 # A link to a page of the same pin.
 LINK = re.compile(r'href="(?:\./)?((?:changes)?\?)')
+# With what a cell begins that a spreadsheet calculates, in its wide forms too, or that moves what
+# is behind it into a cell of its own.
+FORMULA = re.compile("[=+\\-@\t\r\n\uff1d\uff0b\uff0d\uff20]")
 WITH_HYPHENS = re.compile(r"[0-9]{4}-[0-9]{2}-[0-9]{2}\Z", re.ASCII)
 HTML, JSON, CSV = ("%s; charset=utf-8" % kind for kind in (
     "text/html", "application/json", "text/csv"))
@@ -126,3 +131,24 @@ def wants_file(form: Mapping[str, str]) -> bool:
 def for_good(view: View, target: str) -> str:
     """An address below the pin, seen from one that has none."""
     return "pin/%d/%s" % (view.pin, target)
+
+
+def listed(caption: str, heads: Iterable[str], body: Iterable[str]) -> Markup:
+    """A table with a row for each of several records or concepts."""
+    head = tag("thead", tag("tr", *(tag("th", text, scope="col") for text in heads)))
+    return tag("table", tag("caption", caption), head, tag("tbody", *body), class_="listed")
+
+
+def guarded(cell: str) -> str:
+    """The cell as a text: an apostrophe stands before what would be calculated."""
+    return "'" + cell if FORMULA.match(cell) else cell
+
+
+def csv_of(name: str, head: Sequence[str], rows: Iterable[Sequence[str]]) -> Answer:
+    """A table as a file of this name."""
+    written = io.StringIO()
+    writer = csv.writer(written)
+    writer.writerow(head)
+    writer.writerows(map(guarded, row) for row in rows)
+    named = ("Content-Disposition", 'attachment; filename="%s.csv"' % name)
+    return Answer(written.getvalue().encode(), CSV, (named,))

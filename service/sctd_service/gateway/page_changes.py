@@ -9,14 +9,14 @@ from markupsafe import Markup
 
 from . import limits
 from .fhir.versions import Edition
-from .frame import CHANGES, Answer, Shown, day_of, for_good, framed, made_of, wants_file
+from .frame import (
+    CHANGES, Answer, Shown, csv_of, day_of, for_good, framed, listed, made_of, wants_file)
 from .markup import address, aside, joined, tag, term, time, verdict
 from .page import EMPTY, NO_CONCEPT
 from .page_history import Names, changes, other_codes
 from .page_record import REFSETS, linked, nothing_known, status_of
 from .problems import too_costly
 from .store import AnyRow, View
-from .tables import csv_of
 from ..snomed import (
     Association, Concept, Description, Relationship, distinct, is_concept_id, with_hyphens)
 
@@ -149,7 +149,8 @@ async def described(view: View, asked: Between, codes: Sequence[str],
 
 async def names_for(view: View, found: Iterable[Changed], day: str) -> Names:
     """The names of the concepts that the changes name."""
-    rows = [[row for row in (one.before, one.row) if row] for each in found for one in each.changes]
+    every = (one for each in found for one in each.changes)
+    rows = (row for one in every for row in (one.before, one.row) if row)
     return Names(await view.names(other_codes(rows), day), REFSETS)
 
 
@@ -158,9 +159,8 @@ async def shown(view: View, asked: Between, found: Sequence[Changed], count: int
     names, last = await names_for(view, found, asked.releases[1]), asked.releases[1]
     own = (await view.names([asked.concept], last))[asked.concept]
     body = await made_of(found, lambda one: row_of(one, names, asked.days[1]))
-    heads = [tag("th", text, scope="col") for text in ("Concept", "Status", "What changed")]
-    table = tag("table", tag("caption", "By code; a concept that is new was absent before"),
-                tag("thead", tag("tr", *heads)), tag("tbody", *body), class_="listed")
+    table = listed("By code; a concept that is new was absent before",
+                   ("Concept", "Status", "What changed"), body)
     return Shown("What changed at %s %s" % (own, asked.concept), joined(
         tag("h2", term(own), " ", aside(asked.concept)),
         verdict(*summary(asked, len(found), count)), *([table] if body else []),
