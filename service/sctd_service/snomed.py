@@ -50,8 +50,6 @@ FIRST_YEAR = 1000
 
 
 class Concept(NamedTuple):
-    """A row of a concept file."""
-
     id: str
     time: str
     active: str
@@ -64,8 +62,6 @@ class Concept(NamedTuple):
 
 
 class Description(NamedTuple):
-    """A row of a description file."""
-
     id: str
     time: str
     active: str
@@ -94,8 +90,6 @@ class Relationship(NamedTuple):
 
 
 class Association(NamedTuple):
-    """A row of an association reference set."""
-
     id: str
     time: str
     active: str

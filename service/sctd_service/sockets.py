@@ -4,15 +4,11 @@ import errno
 import os
 import socket
 import stat
-from typing import NamedTuple, Optional
+from typing import Optional
 
-
-class Identity(NamedTuple):
-    """What tells a socket from any other that has its name later."""
-
-    device: int
-    inode: int
-    changed: int
+# What tells a socket from any other that has its name later: its device, its number there, and when
+# it changed, in nanoseconds.
+Identity = tuple[int, int, int]
 
 
 def identity_of(path: str) -> Optional[Identity]:
@@ -21,7 +17,7 @@ def identity_of(path: str) -> Optional[Identity]:
         found = os.lstat(path)
     except OSError:
         return None
-    return Identity(found.st_dev, found.st_ino, found.st_ctime_ns)
+    return found.st_dev, found.st_ino, found.st_ctime_ns
 
 
 def clear(path: str) -> None:

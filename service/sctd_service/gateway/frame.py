@@ -14,7 +14,7 @@ from typing import NamedTuple, TypeVar
 from markupsafe import Markup
 
 from . import limits
-from .http import Headers
+from .http import Headers, Response
 from .markup import joined, tag, time
 from .problems import invalid
 from .store import Known, View
@@ -31,6 +31,13 @@ WORDS = {RECORD: ("q", "date", "other", "first", "known"),
          RECORDS: ("list", "file", "format", "known"),
          CHANGES: ("concept", "from", "to", "format", "known")}
 TITLE = "The record as it stood"
+POLICY = (
+    "default-src 'none'; script-src 'self'; style-src 'self'; connect-src 'self'; "
+    "img-src data:; form-action 'self'; base-uri 'none'; frame-ancestors 'none'")
+SAFE: Headers = (
+    ("Cache-Control", "private, no-store"), ("Content-Security-Policy", POLICY),
+    ("Cross-Origin-Resource-Policy", "same-origin"), ("Referrer-Policy", "no-referrer"),
+    ("X-Content-Type-Options", "nosniff"))
 # A link to a page of the same pin.
 LINK = re.compile(r'href="(?:\./)?((?:changes)?\?)')
 # With what a cell begins that a spreadsheet calculates, in its wide forms too, or that moves what
@@ -59,16 +66,8 @@ class Shown(NamedTuple):
     content: Markup
 
 
-class Answer(NamedTuple):
-    """What is sent for a page."""
-
-    body: bytes
-    kind: str = HTML
-    headers: Headers = ()
-
-
 def framed(place: str, form: Mapping[str, str], shown: Shown, view: View | None,
-           is_pinned: bool) -> Answer:
+           is_pinned: bool) -> Response:
     """One of the pages, with its form as it was filled in."""
     state, content = "", shown.content
     if view is not None and view.known:
@@ -83,7 +82,7 @@ def framed(place: str, form: Mapping[str, str], shown: Shown, view: View | None,
     page = FRAME.format(
         title=title, kind=LINKS[place][0].strip("./") or "record", pages=pages(place), form=filled,
         content=content, state=state)
-    return Answer(page.encode())
+    return Response(200, HTML, page.encode(), SAFE)
 
 
 def as_was_known(view: View, known: Known, content: Markup) -> Markup:
@@ -121,7 +120,6 @@ def day_of(text: str, latest: str) -> str:
 
 
 def wants_file(form: Mapping[str, str]) -> bool:
-    """Whether an answer is wanted as CSV."""
     wanted = form.get("format", "")
     if wanted not in ("", "html", "csv"):
         raise invalid("the format is html or csv")
@@ -144,11 +142,10 @@ def guarded(cell: str) -> str:
     return "'" + cell if FORMULA.match(cell) else cell
 
 
-def csv_of(name: str, head: Sequence[str], rows: Iterable[Sequence[str]]) -> Answer:
-    """A table as a file of this name."""
+def csv_of(name: str, head: Sequence[str], rows: Iterable[Sequence[str]]) -> Response:
     written = io.StringIO()
     writer = csv.writer(written)
     writer.writerow(head)
     writer.writerows(map(guarded, row) for row in rows)
     named = ("Content-Disposition", 'attachment; filename="%s.csv"' % name)
-    return Answer(written.getvalue().encode(), CSV, (named,))
+    return Response(200, CSV, written.getvalue().encode(), (*SAFE, named))

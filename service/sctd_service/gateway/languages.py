@@ -70,11 +70,14 @@ def one_language_of(tag: str, house: Sequence[str]) -> Language:
     code, tag = found[1].lower(), tag.lower()
     _, by_refset, digits = tag.partition(BY_REFSET)
     if by_refset:
-        return Language(code, (named_refset(digits),))
+        refset = digits.replace("-", "")
+        if not DIGITS.match(digits) or not is_concept_id(refset):
+            raise invalid("behind x-sctlang- stand the digits of a reference set's SCTID")
+        return Language(code, (refset,))
     parts = tag.split("-")
     for count in range(len(parts), 1, -1):
-        if (refset := FOLDED.get("-".join(parts[:count]))) is not None:
-            return Language(code, (refset,))
+        if dialect := FOLDED.get("-".join(parts[:count])):
+            return Language(code, (dialect,))
     own = tuple(refset for refset in house if refset in refsets_of(code))
     return Language(code, own or LANGUAGES.get(code, ()))
 
@@ -92,13 +95,6 @@ def refsets_of(code: str) -> set[str]:
     """All reference sets that are known to be of a language."""
     dialects = {refset for tag, refset in DIALECTS.items() if tag.startswith(code + "-")}
     return dialects | set(LANGUAGES.get(code, ()))
-
-
-def named_refset(digits: str) -> str:
-    refset = digits.replace("-", "")
-    if not DIGITS.match(digits) or not is_concept_id(refset):
-        raise invalid("behind x-sctlang- stand the digits of a reference set's SCTID")
-    return refset
 
 
 def tag_of(refset: str) -> str:

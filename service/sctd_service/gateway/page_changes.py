@@ -9,8 +9,8 @@ from markupsafe import Markup
 
 from . import limits
 from .fhir.versions import Edition
-from .frame import (
-    CHANGES, Answer, Shown, csv_of, day_of, for_good, framed, listed, made_of, wants_file)
+from .frame import CHANGES, Shown, csv_of, day_of, for_good, framed, listed, made_of, wants_file
+from .http import Response
 from .markup import address, aside, joined, tag, term, time, verdict
 from .page import EMPTY, NO_CONCEPT
 from .page_history import Names, changes, other_codes
@@ -66,8 +66,7 @@ class Changed(NamedTuple):
     changes: list[Change]
 
 
-async def answer(edition: Edition, view: View, form: dict[str, str], is_pinned: bool) -> Answer:
-    """The changes, as a page or as a file."""
+async def answer(edition: Edition, view: View, form: dict[str, str], is_pinned: bool) -> Response:
     is_file, found = wants_file(form), between(view, form)
     if isinstance(found, Shown):
         return framed(CHANGES, form, found, view, is_pinned)
@@ -148,7 +147,6 @@ async def described(view: View, asked: Between, codes: Sequence[str],
 
 
 async def names_for(view: View, found: Iterable[Changed], day: str) -> Names:
-    """The names of the concepts that the changes name."""
     every = (one for each in found for one in each.changes)
     rows = (row for one in every for row in (one.before, one.row) if row)
     return Names(await view.names(other_codes(rows), day), REFSETS)
@@ -193,11 +191,10 @@ def links(view: View, asked: Between, is_pinned: bool) -> Markup:
                tag("a", "This page for good, at pin %d" % view.pin, href=page), class_="links")
 
 
-async def as_file(view: View, asked: Between, found: Sequence[Changed]) -> Answer:
-    """A line of each changed row."""
+async def as_file(view: View, asked: Between, found: Sequence[Changed]) -> Response:
     names = await names_for(view, found, asked.releases[1])
 
-    def made() -> Answer:
+    def made() -> Response:
         rows = [
             (one.code, one.name, *one.statuses, change.kind, change.row.id, change.row.time,
              "; ".join(part.striptags() for part in change.told(names)), str(view.pin),

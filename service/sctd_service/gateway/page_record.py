@@ -121,7 +121,6 @@ class Side(NamedTuple):
             "Concept row of": {concept.time: time(concept.time)}}
 
     def preferred(self, facts: Facts) -> Entries:
-        """What the concept is called in each language of the house."""
         found = {}
         for refset, called in facts.called.items():
             if (shown := preferred_term(called)) is not None:
@@ -248,7 +247,6 @@ def heading(code: str, name: str) -> Markup:
 
 def absent(view: View, question: Question, sides: Sequence[Side],
            versions: Sequence[Concept]) -> Markup:
-    """The record of a code that isn't there on either day."""
     unknown = [nothing_known(side.day, view.days[0]) for side in sides if not side.is_known]
     known = [side.day for side in sides if side.is_known]
     said = ["The code ", tag("code", question.code), " isn\u2019t in the store by ",

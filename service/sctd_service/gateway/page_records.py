@@ -15,7 +15,8 @@ from markupsafe import Markup
 from . import limits
 from .fhir.outputs import USES
 from .fhir.versions import Edition
-from .frame import RECORDS, Answer, Shown, csv_of, for_good, framed, listed, made_of, wants_file
+from .frame import RECORDS, Shown, csv_of, for_good, framed, listed, made_of, wants_file
+from .http import Response
 from .markup import aside, joined, spoken, tag, term, time, verdict
 from .page import EMPTY
 from .page_record import (
@@ -59,7 +60,7 @@ class Known(NamedTuple):
     steps: dict[str, Sequence[Step]]
 
 
-async def answer(edition: Edition, view: View, form: dict[str, str], is_pinned: bool) -> Answer:
+async def answer(edition: Edition, view: View, form: dict[str, str], is_pinned: bool) -> Response:
     is_file, text, file = wants_file(form), form.get("list", ""), form.get("file", "")
     if text and file:
         raise invalid("paste a list or choose a file, but not both")
@@ -141,8 +142,7 @@ def absent(known: Known, record: Record) -> Markup:
 
 async def page_of(view: View, found: Sequence[Judged], is_pinned: bool) -> Shown:
     body = await made_of(found, lambda one: row_of(one, view.latest))
-    caption = "Pin %d; %s; read on %s" % (
-        view.pin, view.receipt, datetime.date.today().isoformat())
+    caption = "Pin %d; %s; read on %s" % (view.pin, view.receipt, datetime.date.today().isoformat())
     table = listed(caption, ("Line", "Record", "Verdict", "On its day", "Now"), body)
     again = [] if is_pinned else [
         tag("p", tag("a", "Lists as of pin %d, for good" % view.pin,
@@ -184,7 +184,7 @@ def status(text: str) -> Markup:
     return tag("span", text, class_=text.replace(" ", "-"))
 
 
-def as_file(edition: Edition, view: View, found: Sequence[Judged]) -> Answer:
+def as_file(edition: Edition, view: View, found: Sequence[Judged]) -> Response:
     rows = [
         (str(one.record.line), one.record.code, with_hyphens(one.day) if one.day else
          one.record.written, one.record.term, one.verdict, one.then, one.name,

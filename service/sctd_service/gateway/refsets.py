@@ -71,8 +71,7 @@ async def those_in(view: View, refset: str, codes: Sequence[str], day: str) -> s
         told = await view.associations(codes, day)
     else:
         told = await view.members_about(codes, day)
-    return {
-        code for code, rows in zip(codes, told) if any(row.refset == refset for row in rows)}
+    return {code for code, rows in zip(codes, told) if any(row.refset == refset for row in rows)}
 
 
 async def was_kept(view: View, refset: str) -> bool:

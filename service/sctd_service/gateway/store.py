@@ -131,7 +131,8 @@ class View:
     async def told(self, line: str, keep: bool = True) -> Reply:
         return (await self.ask([line], keep))[0]
 
-    async def pages(self, question: str, place: int = 0, keep: bool = False) -> AsyncIterator[Reply]:
+    async def pages(self, question: str, place: int = 0,
+                    keep: bool = False) -> AsyncIterator[Reply]:
         """The replies to a question for some rows at a time, which goes on behind what stands at a
         place of the last row."""
         after = FIRST
@@ -185,7 +186,6 @@ class View:
         return await self.each("ABOUT D", codes, day, lambda told: rows(Description, told))
 
     async def called(self, codes: Sequence[str], day: str, refset: str) -> list[list[Called]]:
-        """By what each of the concepts is called in a language."""
         replies = await self.ask([called(code, day, refset) for code in codes])
         return [called_of(reply) for reply in replies]
 
@@ -233,8 +233,7 @@ class View:
         async for reply in self.pages("DELTA %s %s %s" % (kind, first, last)):
             yield rows_about(kind, reply)
 
-    async def rows_on(self, components: Sequence[tuple[str, str]],
-                      day: str) -> list[AnyRow | None]:
+    async def rows_on(self, components: Sequence[tuple[str, str]], day: str) -> list[AnyRow | None]:
         """The row on a day of each component, which is named by its kind and its id, if it had
         one."""
         found: list[AnyRow | None] = []
@@ -252,17 +251,14 @@ class View:
             yield members_of(reply)
 
     async def have_values(self, refsets: Sequence[str], day: str) -> list[str]:
-        """Those of the reference sets that have an active member."""
         told = await self.ask(["VALUES %s %s %s 1" % (one, day, FIRST) for one in refsets])
         return [refset for refset, reply in zip(refsets, told) if members_of(reply)]
 
     async def was_kept(self, refset: str) -> bool:
-        """Whether the store has any member of a reference set, of whichever day."""
         told = await self.told("MEMBERS %s %s %s 1" % (refset, self.latest, FIRST))
         return bool(members_of(told))
 
     async def keeps_members(self) -> bool:
-        """Whether the store's layout keeps members of reference sets."""
         try:
             await self.told("HISTORY M %s" % NO_MEMBER_ID)
         except HubRefused as refused:
@@ -272,7 +268,6 @@ class View:
         return True
 
     async def has_members(self) -> bool:
-        """Whether the store has a member of any reference set."""
         return bool(members_of(await self.told("PAGE M %s %s 1" % (self.latest, FIRST))))
 
     async def has_module(self, module: str) -> bool:
@@ -333,7 +328,6 @@ class View:
         return [Member(row.id, row.is_active) for row in found if row]
 
     async def first_concepts(self, day: str, count: int, active_only: bool) -> list[Member]:
-        """The first so many concepts by id."""
         if count > limits.WALK_CONCEPTS:
             raise too_costly("of all concepts the first %d can be listed" % limits.WALK_CONCEPTS)
         found, pages = list[Member](), self.pages("PAGE C " + day, keep=True)

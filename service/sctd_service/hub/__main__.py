@@ -80,7 +80,6 @@ MOST_A_USER = 250
 
 
 def tell_systemd() -> None:
-    """That the hub is ready, where systemd wants to know."""
     name = os.environ.get("NOTIFY_SOCKET")
     if name:
         with socket.socket(socket.AF_UNIX, socket.SOCK_DGRAM) as telling:
@@ -115,12 +114,10 @@ class Listener:
         self.identity = sockets.identity_of(path)
 
     def remove(self) -> None:
-        """Removes the socket's name, if it is still that of this socket."""
         sockets.remove(self.path, self.identity)
 
 
 async def serve_clients(hub: Hub, listeners: list[Listener]) -> int:
-    """Serves all clients, and answers the status to end with."""
     for number in (signal.SIGTERM, signal.SIGINT):
         asyncio.get_running_loop().add_signal_handler(number, hub.end, 0)
     servers = [

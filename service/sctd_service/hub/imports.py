@@ -54,8 +54,6 @@ NO_IMPORT, NOT_LISTED = "NoImport", "NotListed"
 
 
 class Entry(NamedTuple):
-    """A line of the list."""
-
     number: int
     time: str
     name: str
@@ -80,16 +78,14 @@ class NotAList(OSError):
 
 
 class Found(NamedTuple):
-    """What a list has: the entries that count, how many bytes are whole lines, the numbers of lines
-    that can't be read, and whether there is something behind the last end of a line."""
+    """What a list has: the entries that count, the numbers of lines that can't be read, and whether
+    there is something behind the last end of a line."""
 
     entries: dict[int, Entry]
-    whole: int = 0
     unread: Sequence[int] = ()
     is_cut: bool = False
 
     def faults(self) -> Iterator[str]:
-        """What is wrong with the file."""
         if self.unread:
             yield "%d of its lines can't be read, the first of which is line %d" % (
                 len(self.unread), self.unread[0])
@@ -98,7 +94,6 @@ class Found(NamedTuple):
 
 
 def found_in(text: bytes) -> Found:
-    """What counts of a list."""
     whole, entries, unread = whole_of(text), dict[int, Entry](), list[int]()
     for place, line in enumerate(text[:whole].split(b"\n")[1:-1], 2):
         if found := LINE.fullmatch(line):
@@ -110,7 +105,7 @@ def found_in(text: bytes) -> Found:
             take_back(entries, int(found[1]))
         else:
             unread.append(place)
-    return Found(entries, whole, unread, whole < len(text))
+    return Found(entries, unread, whole < len(text))
 
 
 def whole_of(text: bytes) -> int:
@@ -279,11 +274,9 @@ class ImportList:
                           "first of them for import %d: they don't count" % (len(wrong), wrong[0]))
 
     def missing(self, imports: int) -> list[int]:
-        """The imports that have no line."""
         return [number for number in range(1, imports + 1) if number not in self.entries]
 
     async def add(self, reply: bytes, name: bytes, digest: str, who: str) -> None:
-        """Adds the line of an import that was answered so."""
         number, new, repeated = map(int, reply.split(b" ")[1:])
         entry = Entry(number, now(), name.decode(), new, repeated, digest, who)
         self.entries[number] = entry
@@ -313,7 +306,6 @@ class ImportList:
         return self.reply[1]
 
     def known_told(self, line: bytes, imports: int) -> bytes:
-        """What KNOWN is answered."""
         asked = KNOWN.fullmatch(without_cr(line))
         if not asked or not is_day(day := asked[1].decode()):
             return ARGUMENTS
@@ -324,7 +316,6 @@ class ImportList:
         return b"OK %d %s\n" % (last.number, last.time.encode())
 
     def known(self, day: str, imports: int) -> Entry:
-        """The last import that was made by the end of a day."""
         if day > now()[: len(day)]:
             raise NotKnown(NO_IMPORT, "the day %s hasn't begun: days are those of UTC" % day)
         last = max((number for number, one in self.entries.items()

@@ -94,7 +94,6 @@ class Evaluation:
     # ---- the hierarchy
 
     async def related(self, operator: str, of: Ids) -> Ids:
-        """All that a constraint operator means of a set."""
         if operator in (s.TOP, s.BOTTOM):
             # Of the tops none is below another, of the bottoms none above.
             return of - await self.reached(of, operator == s.TOP)

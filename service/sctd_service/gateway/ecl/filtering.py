@@ -52,7 +52,6 @@ async def with_words(store: Terminology,
 
 async def described(store: Terminology, meant: Meant, rows: Sequence[Description],
                     filters: Sequence[s.Filter]) -> Ids:
-    """The concepts of those descriptions that fit."""
     for one in sorted(filters, key=lambda one: one.name == DIALECT):
         if one.name == DIALECT:
             rows = await in_dialects(store, meant, rows, one)
@@ -106,8 +105,7 @@ async def refsets_of(meant: Meant, e: s.Expression, among: Ids | None) -> Ids:
     return await meant(e, among)
 
 
-async def filtered(meant: Meant, rows: Sequence[Row], f: s.Filter,
-                   said: Said[Row]) -> list[Row]:
+async def filtered(meant: Meant, rows: Sequence[Row], f: s.Filter, said: Said[Row]) -> list[Row]:
     """The rows of which one field fits."""
     fits = await test_of(meant, f, frozenset(filter(None, map(said, rows))))
     return await those_of(rows, lambda row: (text := said(row)) is not None and fits(text))

@@ -151,8 +151,7 @@ class Builder(Transformer[Token, Any]):
         found = WHOLE_PROFILE.match(profile)
         return s.WithHistory(focus, found[1].upper() if found else s.MAX)
 
-    def with_history(self, focus: s.Expression, profile: Token,
-                     by: s.Expression) -> s.WithHistory:
+    def with_history(self, focus: s.Expression, profile: Token, by: s.Expression) -> s.WithHistory:
         if profile.lower() != PROFILE:
             raise misspelt_at(profile, "a profile and reference sets are given")
         return s.WithHistory(focus, by)

@@ -97,8 +97,7 @@ class Plan:
         if r.operator == s.AND:
             return await self.found_by_all(r.parts)
         each = [await self.found(part) for part in r.parts]
-        return Found(
-            NOTHING.union(*(one.codes for one in each)), all(one.is_exact for one in each))
+        return Found(NOTHING.union(*(one.codes for one in each)), all(one.is_exact for one in each))
 
     async def found_by(self, a: s.Attribute) -> Found:
         types, values = self.known[a]

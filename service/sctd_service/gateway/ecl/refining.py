@@ -51,7 +51,6 @@ def most_lines(focus: s.Expression, among: Ids | None) -> float:
 
 
 async def fitting(store: Terminology, meant: Meant, base: Ids, refinement: s.Refinement) -> Ids:
-    """Those of the base that fit the refinement."""
     if not base:
         return base
     said = await store.relationships(base, kinds_of(refinement))
@@ -62,8 +61,7 @@ async def fitting(store: Terminology, meant: Meant, base: Ids, refinement: s.Ref
             tests[one] = await reverse_test(store, meant, base, one)
         else:
             tests[one] = await attribute_test(meant, own.values(), one)
-    return frozenset(
-        await those_of(base, lambda code: fits(refinement, tests, code, own[code])))
+    return frozenset(await those_of(base, lambda code: fits(refinement, tests, code, own[code])))
 
 
 async def dotted(store: Terminology, meant: Meant, e: s.Dotted, among: Ids | None) -> Ids:
@@ -143,7 +141,6 @@ async def reverse_test(store: Terminology, meant: Meant, base: Ids, a: s.Attribu
 
 
 def fits(r: s.Refinement, tests: Mapping[s.Attribute, Test], code: str, own: Attributes) -> bool:
-    """Whether a concept with these attributes fits."""
     if isinstance(r, s.Junction):
         each = (fits(part, tests, code, own) for part in r.parts)
         return all(each) if r.operator == s.AND else any(each)
@@ -156,7 +153,6 @@ def fits(r: s.Refinement, tests: Mapping[s.Attribute, Test], code: str, own: Att
 
 
 def parts_of(r: s.Refinement) -> list[s.Attribute]:
-    """The attributes that a refinement speaks of."""
     if isinstance(r, s.Attribute):
         return [r]
     if isinstance(r, s.AttributeGroup):

@@ -88,9 +88,7 @@ class Terminology:
                 yield reply
             await asyncio.sleep(0)
 
-    async def told(self, question: str,
-                   codes: Collection[str]) -> AsyncIterator[tuple[str, Reply]]:
-        """What is said of each of the codes."""
+    async def told(self, question: str, codes: Collection[str]) -> AsyncIterator[tuple[str, Reply]]:
         ordered = sorted(codes, key=int)
         lines = ["%s %s %s" % (question, code, self.day) for code in ordered]
         left = iter(ordered)
@@ -259,12 +257,11 @@ class Terminology:
 
     # ---- reference sets
 
-    async def associations(self) -> list[Association]:
-        """Those of the day, inactive ones too."""
+    async def associations(self, with_inactive: bool = False) -> list[Association]:
         if self.associated is None:
             pages = [page async for page in self.pages("PAGE A")]
             self.associated = [Association(*row) for page in pages for row in page]
-        return self.associated
+        return [one for one in self.associated if with_inactive or one.active == "1"]
 
     async def replaced(self, codes: Collection[str]) -> list[Association]:
         """The active associations of these concepts."""
@@ -273,8 +270,7 @@ class Terminology:
     async def replacing(self, codes: Ids) -> list[Association]:
         """The active associations of which one of the concepts is the target."""
         if len(codes) > limits.ASKED_ONE_BY_ONE:
-            return [row for row in await self.associations()
-                    if row.active == "1" and row.target in codes]
+            return [row for row in await self.associations() if row.target in codes]
         return [row async for row in self.rows("REPLACES", Association, codes)]
 
     async def codes_of(self, refset: str) -> Ids:
@@ -284,8 +280,7 @@ class Terminology:
         if found or refset in ASSOCIATIONS:
             return frozenset(found)
         return frozenset(row.source for row in await self.associations()
-                         if row.refset == refset and row.active == "1"
-                         and is_id_of_concept(row.source))
+                         if row.refset == refset and is_id_of_concept(row.source))
 
     async def members(self, refset: str, with_inactive: bool) -> AsyncIterator[RefsetMember]:
         """Those of a reference set. An association's target is its one further column."""
@@ -296,8 +291,8 @@ class Terminology:
                 is_empty = False
                 yield member_of(row)
         if is_empty:
-            for one in await self.associations():
-                if one.refset == refset and (with_inactive or one.active == "1"):
+            for one in await self.associations(with_inactive):
+                if one.refset == refset:
                     yield member_of([*one])
 
     async def columns(self, counts: dict[str, int]) -> refsets.Columns:
@@ -306,9 +301,8 @@ class Terminology:
 
     async def every_member(self, with_inactive: bool) -> AsyncIterator[RefsetMember]:
         """Those of all reference sets."""
-        for one in await self.associations():
-            if with_inactive or one.active == "1":
-                yield member_of([*one])
+        for one in await self.associations(with_inactive):
+            yield member_of([*one])
         async for page in self.pages("PAGE M"):
             for row in page:
                 if with_inactive or row[ACTIVE] == "1":

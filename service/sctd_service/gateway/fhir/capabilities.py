@@ -7,7 +7,7 @@ from ...snomed import with_hyphens
 from . import lookup
 from .inputs import SCT
 from .parameters import ways_of
-from .request import OperationRequest
+from .versions import OperationRequest
 from .translation import ICD_10, MAPS
 from .valuesets import CONSTRAINT, FILTERS, IS
 

@@ -17,7 +17,7 @@ from ..store import SEARCHED
 from ...snomed import Language, with_hyphens
 from .inputs import SCT, not_here
 from .outputs import ASKED, designations, parameter
-from .request import Dated, OperationRequest
+from .versions import Dated, OperationRequest
 from .valuesets import (
     Sort, ValueSet, codes_in, expression_codes, inside, refset_codes, versions_of, wanted_value_set)
 

@@ -9,10 +9,9 @@ from ..problems import Json, Problem, invalid, not_found
 from ...snomed import is_concept_id, is_day
 from .inputs import SCT, Given
 from .parameters import Ways
-from .request import OperationRequest
 from .translation import MAPS, Asked, map_of, must_be_a_map, systems_of
 from .valuesets import CONSTRAINT, FILTERS, IS, Sort, must_be_kept, value_set_of
-from .versions import Edition, Moment
+from .versions import Edition, Moment, OperationRequest
 
 CODE_SYSTEM, VALUE_SET, CONCEPT_MAP = "CodeSystem", "ValueSet", "ConceptMap"
 CODE_SYSTEM_ID = "sct"
@@ -36,7 +35,6 @@ OPS = {sort: op for op, sort in FILTERS.items()}
 
 
 def address_of(kind: str, name: str, edition: Edition) -> tuple[str, str]:
-    """The version and the address of the resource with this id."""
     form, _, day = name.partition(".")
     version = edition.version(day) if day else SCT
     stem, _, code = form.rpartition("-")
@@ -50,11 +48,6 @@ def address_of(kind: str, name: str, edition: Edition) -> tuple[str, str]:
     if stem and is_concept_id(code) and stem + "-" in forms:
         return version, "%s?%s%s" % (version, forms[stem + "-"], code)
     raise not_there(kind, name)
-
-
-def id_of(kind: str, form: str, code: str, day: str) -> str:
-    named = next(name for name, what in FORMS[kind].items() if what == form)
-    return "%s%s%s" % (named, code, "." + day if day else "")
 
 
 def instance(kind: str, name: str, system: str, edition: Edition) -> list[Given]:
@@ -113,13 +106,14 @@ async def concept_map(request: OperationRequest, address: str, version: str | No
     form = url.partition("?")[2].removesuffix(refset)
     targets = {} if refset and refset not in MAPS else {"targetUri": SCT + "?fhir_vs"}
     return {
-        **named(CONCEPT_MAP, url, form, refset, asked.moment), "sourceUri": SCT + "?fhir_vs", **targets}
+        **named(CONCEPT_MAP, url, form, refset, asked.moment), "sourceUri": SCT + "?fhir_vs",
+        **targets}
 
 
 def named(kind: str, url: str, form: str, code: str, moment: Moment) -> Json:
     """The beginning of a resource with this address."""
-    is_of_version = "/version/" in url
-    name = id_of(kind, form, code, moment.day if is_of_version else "")
+    stem = next(name for name, what in FORMS[kind].items() if what == form)
+    name = stem + code + ("." + moment.day if "/version/" in url else "")
     words = name.replace("-", "_").replace(".", "_")
     return {
         "resourceType": kind, "id": name, "url": url, "version": moment.version,

@@ -7,7 +7,7 @@ from ..problems import Json
 from ...snomed import DEFINED, IS_A, Facts, is_concept_id
 from .inputs import CodeNames
 from .outputs import concrete, dated, designations, parameter, parameters
-from .request import OperationRequest
+from .versions import OperationRequest
 
 ALL, CHILD, DESIGNATION = "*", "child", "designation"
 INACTIVATION, NORMAL_FORM, TERSE = "inactivationIndicator", "normalForm", "normalFormTerse"
@@ -51,9 +51,9 @@ async def lookup(request: OperationRequest) -> Json:
         said.append((NORMAL_FORM, {"valueString": normal_form(facts, names)}))
     parts += [parameter("property", part=property_parts(*one, names)) for one in said]
     for group in groups:
-        subproperties = [parameter("subproperty", part=property_parts(*one, names)) for one in group]
+        own = [parameter("subproperty", part=property_parts(*one, names)) for one in group]
         named = parameter("code", valueCode=ROLE_GROUP)
-        parts.append(parameter("property", part=[named, *subproperties]))
+        parts.append(parameter("property", part=[named, *own]))
     return parameters(parts)
 
 

@@ -3,7 +3,7 @@
 from ..problems import Json
 from .inputs import CodeNames
 from .outputs import dated, parameter, parameters
-from .request import OperationRequest
+from .versions import OperationRequest
 
 # By whether the first code is the second or above it, and whether it is the second or below it. Two
 # codes that are both, as on a cycle of a faulty release, are kinds of each other.

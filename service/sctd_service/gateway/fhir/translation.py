@@ -9,7 +9,7 @@ from ...snomed import SIMPLE_MAP, Language, is_concept_id
 from ..problems import Json, Problem, conflict, not_found, not_supported
 from .inputs import SCT, CodeNames, not_here
 from .outputs import concrete, dated, parameter, parameters
-from .request import Dated, OperationRequest
+from .versions import Dated, OperationRequest
 from .valuesets import ValueSet, inside, must_be_kept, parted, value_set_of
 
 # What a target means beside the code, as R4's ConceptMapEquivalence has it.

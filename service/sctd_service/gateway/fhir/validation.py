@@ -5,7 +5,7 @@ from ..problems import Json
 from ...snomed import is_concept_id, is_display
 from .inputs import SCT, CodeNames, Coding, not_here
 from .outputs import dated, parameter, parameters
-from .request import Dated, OperationRequest
+from .versions import Dated, OperationRequest
 from .valuesets import Sort, ValueSet, inside, versions_of, wanted_value_set
 
 # What a code isn't that is outside a value set.

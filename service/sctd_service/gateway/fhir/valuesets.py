@@ -14,10 +14,8 @@ from ..ecl.parsing import parse
 from ..problems import Json, Problem, conflict, invalid, not_found, not_supported, too_costly
 from ...snomed import REFERENCE_SET, distinct, is_concept_id
 from .inputs import SCT, Query, not_here
-from .request import Dated
+from .versions import Dated
 
-ALL, IS_A, REFSETS, REFSET = "fhir_vs", "fhir_vs=isa/", "fhir_vs=refset", "fhir_vs=refset/"
-ECL = "fhir_vs=ecl/"
 # An address with a version of SNOMED CT behind it.
 CANONICAL = re.compile(r"(.*)\|(http://snomed\.info/sct[^|]*)\Z", re.DOTALL)
 # What stands in no address: an expression that has such letters isn't encoded a second time.
@@ -40,6 +38,10 @@ class Sort(enum.IntEnum):
     ANY = enum.auto()
 
 
+# What stands behind the question mark of an address: a code follows a slash.
+FORMS = {"fhir_vs": Sort.ANY, "fhir_vs=refset": Sort.ARE_REFSETS, "fhir_vs=isa/": Sort.WITHIN,
+         "fhir_vs=refset/": Sort.IN_REFSET}
+ECL = "fhir_vs=ecl/"
 # The filters of a concept that a client's value set may have.
 FILTERS = {
     "is-a": Sort.WITHIN, "descendent-of": Sort.BELOW, "generalizes": Sort.ABOVE,
@@ -132,14 +134,11 @@ def system_versions(query: Query, name: str) -> list[str]:
 
 def value_set_of(address: str) -> ValueSet:
     url, what, versions = parted(address)
-    if not what.startswith(ALL):
+    if not what.startswith("fhir_vs"):
         raise not_found("the value set %.100r isn't known: only those of %s?fhir_vs" % (url, SCT))
-    for name, sort in ((ALL, Sort.ANY), (REFSETS, Sort.ARE_REFSETS)):
-        if what == name:
-            return ValueSet(url, versions, sort)
-    for name, sort in ((IS_A, Sort.WITHIN), (REFSET, Sort.IN_REFSET)):
-        code = what.removeprefix(name)
-        if code != what and is_concept_id(code):
+    for form, sort in FORMS.items():
+        code = what.removeprefix(form)
+        if what.startswith(form) and (is_concept_id(code) if form.endswith("/") else not code):
             return ValueSet(url, versions, sort, code)
     if what.startswith(ECL):
         text = what.removeprefix(ECL)
@@ -163,7 +162,6 @@ def parted(address: str) -> tuple[str, str, tuple[str, ...]]:
 
 
 def composed(resource: Any, sent: Sent) -> ValueSet:
-    """A value set that a client defines."""
     compose = resource.get("compose") if isinstance(resource, dict) else None
     if not isinstance(compose, dict) or resource.get("resourceType") != "ValueSet":
         raise invalid("valueSet has to be a resource ValueSet with compose")
