@@ -4,14 +4,13 @@ import errno
 import os
 import socket
 import stat
-from typing import Optional
 
 # What tells a socket from any other that has its name later: its device, its number there, and when
 # it changed, in nanoseconds.
 Identity = tuple[int, int, int]
 
 
-def identity_of(path: str) -> Optional[Identity]:
+def identity_of(path: str) -> Identity | None:
     """That of the socket which a path names; None where there is none."""
     try:
         found = os.lstat(path)
@@ -34,7 +33,7 @@ def clear(path: str) -> None:
     os.unlink(path)
 
 
-def remove(path: str, own: Optional[Identity]) -> None:
+def remove(path: str, own: Identity | None) -> None:
     """Removes a socket's name, if it is still that of the own socket."""
     if own is not None and identity_of(path) == own:
         os.unlink(path)

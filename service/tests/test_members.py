@@ -714,10 +714,10 @@ class TestMemberships:
 
     def test_more_than_are_told(self) -> None:
         rows = [[member("7")] for _ in range(limits.TOLD_MEMBERS + 3)]
-        entries = refset_entries(memberships(rows, "7", "20200101"), Names({}, {}))
+        entries = refset_entries(memberships(rows, "7", "20200101"), Names())
         assert len(entries) == 1
         assert "and 3 more" in "".join(entries.values())
         rows = [[member("7")._replace(refset=str(one))] for one in range(limits.TOLD_REFSETS + 1)]
-        entries = refset_entries(memberships(rows, "7", "20200101"), Names({}, {}))
+        entries = refset_entries(memberships(rows, "7", "20200101"), Names())
         assert len(entries) == limits.TOLD_REFSETS + 1
         assert "and others" in entries["more"]

@@ -64,8 +64,7 @@ OF_ALL = (FORMAT, PRETTY, known.NAME)
 
 
 class App:
-    """The answers to requests. `walks` are the places of those that may ask thousands of
-    questions."""
+    """The answers to requests. `walks` are places of those that may ask thousands of questions."""
 
     def __init__(self, pool: Pool, edition: Edition, origins: Sequence[str] = (),
                  is_strict: bool = False) -> None:
@@ -322,8 +321,7 @@ def check_body(request: http.Request) -> None:
 
 
 def problem_of(error: Exception) -> Problem:
-    """What a client is told of an error. A fault of the gateway or of `sctd` goes to standard
-    error."""
+    """What a client is told of an error. A fault of the gateway or of `sctd` is logged."""
     if isinstance(error, Problem):
         return error
     if isinstance(error, (HubGone, TimeoutError)):

@@ -78,7 +78,9 @@ def one_language_of(tag: str, house: Sequence[str]) -> Language:
     for count in range(len(parts), 1, -1):
         if dialect := FOLDED.get("-".join(parts[:count])):
             return Language(code, (dialect,))
-    own = tuple(refset for refset in house if refset in refsets_of(code))
+    known = {refset for one, refset in DIALECTS.items() if one.startswith(code + "-")}
+    known.update(LANGUAGES.get(code, ()))
+    own = tuple(refset for refset in house if refset in known)
     return Language(code, own or LANGUAGES.get(code, ()))
 
 
@@ -89,12 +91,6 @@ def searched_in(language: Language, house: Sequence[str]) -> frozenset[str]:
     if not found or UNKNOWN in found:
         return frozenset()
     return frozenset(found.union(filter(None, (one.code for one in language.each))))
-
-
-def refsets_of(code: str) -> set[str]:
-    """All reference sets that are known to be of a language."""
-    dialects = {refset for tag, refset in DIALECTS.items() if tag.startswith(code + "-")}
-    return dialects | set(LANGUAGES.get(code, ()))
 
 
 def tag_of(refset: str) -> str:

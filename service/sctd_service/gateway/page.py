@@ -8,7 +8,7 @@ from markupsafe import Markup
 
 from . import limits
 from .fhir.versions import Edition
-from .frame import JSON, RECORD, SAFE, Shown, day_of, framed
+from .frame import JSON, SAFE, Shown, day_of
 from .http import Response
 from .languages import searched_in
 from .markup import address, aside, joined, tag, term, time, verdict
@@ -40,25 +40,23 @@ class Search(NamedTuple):
         return address(q=self.q, date=with_hyphens(self.day), other=self.other, first=str(first))
 
 
-async def answer(edition: Edition, view: View, form: dict[str, str], is_pinned: bool) -> Response:
+async def answer(edition: Edition, view: View, form: dict[str, str], is_pinned: bool) -> Shown:
     """What is found by a code or by words of a term, on the record's day."""
     q = form.get("q", "")
     date, other = (day_of(form.get(name, ""), view.latest) for name in ("date", "other"))
     if not view.latest:
-        shown = Shown("", verdict(EMPTY))
-    elif not q:
-        shown = Shown("", verdict("Type a code, or words of a term."))
-    elif not DIGITS.match(q):
+        return Shown("", verdict(EMPTY))
+    if not q:
+        return Shown("", verdict("Type a code, or words of a term."))
+    if not DIGITS.match(q):
         first = form.get("first", "")
         if first and not PLACE.match(first):
             raise invalid("first is how many of the concepts that were found are passed over")
         search = Search(edition, q, min(date, view.latest), form.get("other", ""), int(first or 0))
-        shown = await results(view, search)
-    elif is_concept_id(q):
-        shown = await record(view, Question(edition, q, date, other, is_pinned))
-    else:
-        shown = Shown(q, verdict(NO_CONCEPT))
-    return framed(RECORD, form, shown, view, is_pinned)
+        return await results(view, search)
+    if is_concept_id(q):
+        return await record(view, Question(edition, q, date, other, is_pinned))
+    return Shown(q, verdict(NO_CONCEPT))
 
 
 async def results(view: View, search: Search) -> Shown:

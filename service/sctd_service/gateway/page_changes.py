@@ -9,12 +9,12 @@ from markupsafe import Markup
 
 from . import limits
 from .fhir.versions import Edition
-from .frame import CHANGES, Shown, csv_of, day_of, for_good, framed, listed, made_of, wants_file
+from .frame import Shown, csv_of, day_of, for_good, listed, made_of, wants_file
 from .http import Response
 from .markup import address, aside, joined, tag, term, time, verdict
 from .page import EMPTY, NO_CONCEPT
 from .page_history import Names, changes, other_codes
-from .page_record import REFSETS, linked, nothing_known, status_of
+from .page_record import linked, nothing_known, status_of
 from .problems import too_costly
 from .store import AnyRow, View
 from ..snomed import (
@@ -66,21 +66,21 @@ class Changed(NamedTuple):
     changes: list[Change]
 
 
-async def answer(edition: Edition, view: View, form: dict[str, str], is_pinned: bool) -> Response:
+async def answer(edition: Edition, view: View, form: dict[str, str],
+                 is_pinned: bool) -> Shown | Response:
     is_file, found = wants_file(form), between(view, form)
     if isinstance(found, Shown):
-        return framed(CHANGES, form, found, view, is_pinned)
+        return found
     if not await view.versions(found.concept):
-        return framed(CHANGES, form, Shown(found.concept, verdict(
-            "The store has no concept ", tag("code", found.concept), ".")), view, is_pinned)
+        said = verdict("The store has no concept ", tag("code", found.concept), ".")
+        return Shown(found.concept, said)
     by_concept = await changed_by_concept(view, found)
     codes = sorted(by_concept, key=int)
     if is_file:
         return await as_file(view, found, await described(view, found, codes, by_concept))
     some = codes[: limits.CHANGED_CONCEPTS]
     told = await described(view, found, some, by_concept)
-    told_of = await shown(view, found, told, len(codes), is_pinned)
-    return framed(CHANGES, form, told_of, view, is_pinned)
+    return await shown(view, found, told, len(codes), is_pinned)
 
 
 def between(view: View, form: dict[str, str]) -> Between | Shown:
@@ -149,7 +149,7 @@ async def described(view: View, asked: Between, codes: Sequence[str],
 async def names_for(view: View, found: Iterable[Changed], day: str) -> Names:
     every = (one for each in found for one in each.changes)
     rows = (row for one in every for row in (one.before, one.row) if row)
-    return Names(await view.names(other_codes(rows), day), REFSETS)
+    return Names(await view.names(other_codes(rows), day))
 
 
 async def shown(view: View, asked: Between, found: Sequence[Changed], count: int,

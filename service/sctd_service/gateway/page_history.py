@@ -11,8 +11,8 @@ from . import limits
 from .markup import aside, joined, tag, term, time
 from .refsets import METADATA_TAG, Columns, columns_of
 from ..snomed import (
-    DEFINED, FULLY_SPECIFIED_NAME, IS_A, TEXT_DEFINITION, Association, Concept, Description,
-    RefsetMember, Relationship, is_concept_id)
+    ASSOCIATIONS, DEFINED, FULLY_SPECIFIED_NAME, IS_A, TEXT_DEFINITION, Association, Concept,
+    Description, RefsetMember, Relationship, is_concept_id)
 from .store import AnyRow, Versions, View
 
 ARROW = " \u2192 "
@@ -21,13 +21,11 @@ NOTHING = "none"
 WHAT = {FULLY_SPECIFIED_NAME: "Name", TEXT_DEFINITION: "Text definition"}
 
 
-class Names:
-    """What codes are called: reference sets by the names of their associations, others by the
-    store."""
+class Names(NamedTuple):
+    """What codes are called in the store, and the columns of reference sets."""
 
-    def __init__(self, names: Mapping[str, str], refsets: Mapping[str, str],
-                 columns: Columns | None = None) -> None:
-        self.names, self.refsets, self.columns = names, refsets, columns or {}
+    names: Mapping[str, str] = {}
+    columns: Columns = {}
 
     def of(self, code: str) -> str:
         """A concrete value is told as it is, without the sign that it is a number."""
@@ -37,7 +35,7 @@ class Names:
         return "Parent" if code == IS_A else self.of(code).removesuffix(" (attribute)")
 
     def of_refset(self, code: str) -> str:
-        return self.refsets.get(code) or self.of_metadata(code)
+        return ASSOCIATIONS.get(code) or self.of_metadata(code)
 
     def of_metadata(self, code: str) -> str:
         return self.of(code).removesuffix(METADATA_TAG)
@@ -52,13 +50,12 @@ class Names:
         return [(column, value or NOTHING) for column, value in zip(columns, values)]
 
 
-async def history(view: View, timeline: Iterable[Versions], marks: Mapping[str, str],
-                  refsets: Mapping[str, str]) -> Markup:
+async def history(view: View, timeline: Iterable[Versions], marks: Mapping[str, str]) -> Markup:
     """The changes by day, oldest first, with the days that are marked among them."""
     rows = [row for versions in timeline for row in versions]
     members = (row for row in rows if isinstance(row, RefsetMember))
     columns = await columns_of(view, counts_of(members), view.latest)
-    names = Names(await view.names(other_codes(rows), view.latest), refsets, columns)
+    names = Names(await view.names(other_codes(rows), view.latest), columns)
     events: dict[str, list[Markup]] = {day: [tag("em", said)] for day, said in marks.items()}
     for versions in timeline:
         before: AnyRow | None = None

@@ -15,14 +15,12 @@ from .page_history import (
     NOTHING, Membership, Names, codes_of_member, counts_of, history, memberships, refset_entries)
 from .refsets import columns_of
 from ..snomed import (
-    DEFINED, FULLY_SPECIFIED_NAME, IS_A, MOVED_FROM, MOVED_TO, REFERS_TO, TEXT_DEFINITION,
-    Association, Concept, Facts, Language, Relationship, display_of, distinct, is_concept_id,
-    preferred_term, reasons_of, with_hyphens)
+    ASSOCIATIONS, DEFINED, FULLY_SPECIFIED_NAME, IS_A, MOVED_TO, TEXT_DEFINITION, Association,
+    Concept, Facts, Language, Relationship, display_of, distinct, is_concept_id, preferred_term,
+    reasons_of, with_hyphens)
 from .store import Versions, View
 
-REFSETS = {refset: one.name.capitalize() for refset, one in MAPS.items()} | {
-    MOVED_FROM: "Moved from", REFERS_TO: "Refers to"}
-REFSET_ORDER = {refset: place for place, refset in enumerate(REFSETS)}
+REFSET_ORDER = {refset: place for place, refset in enumerate(ASSOCIATIONS)}
 # The associations that say whose place a concept took.
 TAKEN = MAPS.keys() - {MOVED_TO}
 MORE_STEPS = "This isn\u2019t whole: inactive concepts at its end may lead further."
@@ -37,8 +35,7 @@ Entries = dict[str, Markup]
 
 
 class Question(NamedTuple):
-    """A record: its code, its day, the day it is compared with, and whether the address has a
-    pin."""
+    """A record: its code and day, the day it is compared with, whether the address has a pin."""
 
     edition: Edition
     code: str
@@ -62,7 +59,7 @@ class Side(NamedTuple):
     day: str
     is_known: bool
     facts: Facts | None
-    names: Names = Names({}, {})
+    names: Names = Names()
     members: list[Membership] = []
     around: Around = Around()
 
@@ -147,7 +144,7 @@ class Side(NamedTuple):
         return found | ({"more": aside("and %d more" % more)} if more else {})
 
     def predecessor(self, code: str) -> Markup:
-        said = ", ".join(REFSETS[row.refset].lower() for row in self.around.taken[code])
+        said = ", ".join(ASSOCIATIONS[row.refset].lower() for row in self.around.taken[code])
         return joined(self.link(code), " ", aside(said))
 
     def link(self, code: str) -> Markup:
@@ -199,7 +196,7 @@ async def side_of(view: View, code: str, day: str, language: Language,
         codes += codes_of_member(member.row)
     codes += told_first(own.children, other.children) + told_first(own.taken, other.taken)
     columns = await columns_of(view, counts_of(member.row for member in members), release)
-    names = Names(await view.names(codes, release), {}, columns)
+    names = Names(await view.names(codes, release), columns)
     return Side(day, True, facts, names, members, own)
 
 
@@ -234,7 +231,7 @@ async def record(view: View, question: Question) -> Shown:
             parts.append(tag("section", tag("h3", "What took its place, by ", time(side.day)),
                              await replacements(view, code, side.day)))
     marks = {now.day: "The day compared with", then.day: "The record\u2019s day"}
-    told = await history(view, timeline, marks, REFSETS)
+    told = await history(view, timeline, marks)
     parts.append(tag("section", tag("h3", "History"), told))
     parts.append(report(view, question, then, versions))
     return Shown("%s %s" % (name, code), joined(*parts))
@@ -352,7 +349,7 @@ class Step(NamedTuple):
 
     @property
     def how(self) -> str:
-        return REFSETS.get(self.row.refset, self.row.refset)
+        return ASSOCIATIONS.get(self.row.refset, self.row.refset)
 
     @property
     def name(self) -> str:

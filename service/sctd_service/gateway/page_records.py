@@ -15,7 +15,7 @@ from markupsafe import Markup
 from . import limits
 from .fhir.outputs import USES
 from .fhir.versions import Edition
-from .frame import RECORDS, Shown, csv_of, for_good, framed, listed, made_of, wants_file
+from .frame import Shown, csv_of, for_good, listed, made_of, wants_file
 from .http import Response
 from .markup import aside, joined, spoken, tag, term, time, verdict
 from .page import EMPTY
@@ -60,21 +60,21 @@ class Known(NamedTuple):
     steps: dict[str, Sequence[Step]]
 
 
-async def answer(edition: Edition, view: View, form: dict[str, str], is_pinned: bool) -> Response:
+async def answer(edition: Edition, view: View, form: dict[str, str],
+                 is_pinned: bool) -> Shown | Response:
     is_file, text, file = wants_file(form), form.get("list", ""), form.get("file", "")
     if text and file:
         raise invalid("paste a list or choose a file, but not both")
     if not (text or file) or not view.latest:
-        purpose = verdict(PURPOSE if view.latest else EMPTY)
-        return framed(RECORDS, form, Shown("A list of records", purpose), view, is_pinned)
+        return Shown("A list of records", verdict(PURPOSE if view.latest else EMPTY))
     if len((text or file).encode()) > limits.RECORDS_BYTES:
         raise too_costly("a list may have %d bytes: divide it" % limits.RECORDS_BYTES)
     records = await asyncio.to_thread(records_of, text or file)
     found = await judged(view, records)
     if is_file:
         return await asyncio.to_thread(as_file, edition, view, found)
-    shown = await page_of(view, found, is_pinned)
-    return framed(RECORDS, {**form, "list": text or file}, shown, view, is_pinned)
+    form["list"] = text or file  # The form keeps it.
+    return await page_of(view, found, is_pinned)
 
 
 async def judged(view: View, records: Sequence[Record]) -> list[Judged]:

@@ -15,7 +15,8 @@ from .posted import pairs_of, pairs_posted
 from .problems import Problem, invalid
 from .store import View
 
-Answering = Callable[[Edition, View, dict[str, str], bool], Awaitable[Response]]
+# What a page shows, or else a file.
+Answering = Callable[[Edition, View, dict[str, str], bool], Awaitable[Shown | Response]]
 
 
 class Page(NamedTuple):
@@ -54,7 +55,8 @@ async def words_of(path: str, request: Request) -> dict[str, str]:
 async def answered(path: str, edition: Edition, view: View, words: dict[str, str],
                    is_pinned: bool) -> Response:
     view.session.most = PAGES[path].questions
-    return await PAGES[path].answer(edition, view, words, is_pinned)
+    found = await PAGES[path].answer(edition, view, words, is_pinned)
+    return framed(path, words, found, view, is_pinned) if isinstance(found, Shown) else found
 
 
 async def refused(path: str, request: Request, text: str, is_pinned: bool) -> Response:

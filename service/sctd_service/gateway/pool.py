@@ -232,7 +232,10 @@ class Session:
         """Learns what the pin shows. Where that is remembered nothing is asked."""
         lines = ["DATES", *(["RECEIPT %d" % self.pin] if self.pin else [])]
         dates, *receipts = await self.ask(lines)
-        self.days = days_of(dates)
+        days = [DATE.match(line) for line in dates[:-1]]
+        if not all(days) or not dates[-1].startswith("END "):
+            raise HubGone("the hub says what isn't a day", True)
+        self.days = [day[1] for day in days if day]
         if receipts:
             receipt = receipts[0][-1]
             if not RECEIPT.match(receipt):
@@ -284,10 +287,3 @@ class Session:
 def size_of(reply: Reply) -> int:
     """Roughly what Python takes for a reply that is remembered."""
     return ENTRY_BYTES + sum(LINE_BYTES + LETTER_BYTES * len(line) for line in reply)
-
-
-def days_of(reply: Reply) -> list[str]:
-    found = [DATE.match(line) for line in reply[:-1]]
-    if not all(found) or not reply[-1].startswith("END "):
-        raise HubGone("the hub says what isn't a day", True)
-    return [day[1] for day in found if day]

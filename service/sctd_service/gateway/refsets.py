@@ -125,8 +125,7 @@ async def which_of(view: View, codes: Sequence[str], day: str) -> set[str]:
 
 
 async def columns_of(view: View, counts: Mapping[str, int], day: str) -> Columns:
-    """What the columns of reference sets are called, as the store describes them on a day: of each
-    that has so many."""
+    """What the columns of reference sets are called on a day, of each that has so many."""
     described = [described_by(told) for told in await view.members_about([*counts], day)]
     names = await view.names((code for codes in described for code in codes), day)
     found = {

@@ -234,8 +234,7 @@ class View:
             yield rows_about(kind, reply)
 
     async def rows_on(self, components: Sequence[tuple[str, str]], day: str) -> list[AnyRow | None]:
-        """The row on a day of each component, which is named by its kind and its id, if it had
-        one."""
+        """The row on a day, if it had one, of each component: of its kind and its id."""
         found: list[AnyRow | None] = []
         for start in range(0, len(components), limits.HUB_BATCH):
             some = components[start : start + limits.HUB_BATCH]

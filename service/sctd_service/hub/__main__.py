@@ -64,7 +64,7 @@ import resource
 import signal
 import socket
 import sys
-from typing import Any, Optional
+from typing import Any
 
 from .. import settings, sockets
 from ..logs import log, tell
@@ -100,7 +100,7 @@ def is_clear(path: str) -> bool:
 class Listener:
     """A socket of the hub's, with its rights: its owner's alone, or also a group's."""
 
-    def __init__(self, path: str, may_change: bool, group: Optional[int] = None) -> None:
+    def __init__(self, path: str, may_change: bool, group: int | None = None) -> None:
         self.path, self.may_change = path, may_change
         self.socket = socket.socket(socket.AF_UNIX)
         before = os.umask(0o177)

@@ -8,7 +8,7 @@ import struct
 import time
 from collections import Counter
 from collections.abc import Callable, Coroutine, Sequence
-from typing import Optional, cast
+from typing import cast
 
 from ..logs import log, tell
 from .checking import without_notes
@@ -49,7 +49,7 @@ class Client(asyncio.Protocol):
     def __init__(self, hub: "Hub", may_change: bool) -> None:
         self.hub, self.may_change, self.inputs = hub, may_change, hub.program.inputs
         self.session, self.user, self.lines = 0, "nobody", Lines(LINE_LIMIT, may_change)
-        self.pin: Optional[bytes] = None
+        self.pin: bytes | None = None
         # How many lines are on their way, and what they were answered that isn't sent yet.
         self.flying, self.replies = 0, list[bytes]()
         # Whether it waits for a turn, has a line that the hub carries out, has replies to read.
@@ -145,8 +145,8 @@ class Client(asyncio.Protocol):
         self.flying -= 1
         if reply.startswith(b"OK"):
             self.pin = pin_after(line, reply, self.pin)
-            if words := self.hub.troubles():
-                reply = with_words(line, reply, words)
+            if (words := self.hub.troubles()) and without_cr(line[:-1]).endswith(b" STATUS"):
+                reply = b"%s%s\n" % (reply[:-1], words)
         self.replies.append(reply)
         return self.flying == 0
 
@@ -182,7 +182,7 @@ class Client(asyncio.Protocol):
         if not self.is_gone:
             self.go_on()
 
-    def connection_lost(self, why: Optional[Exception]) -> None:
+    def connection_lost(self, why: Exception | None) -> None:
         self.is_gone = True
         self.inputs.remove(self.number)
         self.lines.clear()
@@ -239,12 +239,6 @@ class Client(asyncio.Protocol):
 
 def day_now() -> bytes:
     return time.strftime("%Y%m%d", time.gmtime()).encode()
-
-
-def with_words(line: bytes, reply: bytes, words: bytes) -> bytes:
-    """A reply of a store with troubles: that to STATUS says so."""
-    is_status = without_cr(line[:-1]).endswith(b" STATUS")
-    return b"%s%s\n" % (reply[:-1], words) if is_status else reply
 
 
 class Hub:
@@ -361,8 +355,7 @@ class Hub:
             watcher.send(self.store.imports_told())
 
     def end_slowest(self) -> None:
-        """Where clients leave too much unread, the one that has done so for the longest time is
-        hung up on."""
+        """Where clients leave too much unread, hangs up on who has done so for longest."""
         while sum(one.transport.get_write_buffer_size() for one in self.unread) > UNREAD_LIMIT:
             slowest = next(iter(self.unread))
             del self.unread[slowest]
@@ -389,7 +382,7 @@ class Hub:
 
     async def stop(self) -> None:
         """Ends the program after the lines that it answers, and then the clients."""
-        self.store.is_ending.set()
+        self.store.is_stopped.set()
         await self.program.stop()
         await self.store.stop_listing()
         for client in list(self.clients):

@@ -8,7 +8,7 @@ the pin, so that no import in between is seen, and the row before it, which no m
 import asyncio
 import hashlib
 import time
-from typing import Any, Optional, Protocol
+from typing import Any, Protocol
 
 from ..logs import log
 from ..protocol import FIRST_KEY, LATER_LAYOUT, REFUSED, last_line
@@ -33,7 +33,7 @@ class Waiter(Protocol):
 
     session: int
     user: str
-    pin: Optional[bytes]
+    pin: bytes | None
     is_gone: bool
 
     def end_if_left(self) -> None:

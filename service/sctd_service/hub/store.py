@@ -7,7 +7,6 @@ import os
 import threading
 import time
 from collections.abc import Callable
-from typing import Optional
 
 from ..logs import log, pass_on, tell
 from ..protocol import DAMAGED, REFUSED, REPLY, last_line
@@ -57,14 +56,14 @@ class Store:
         # no space ends the hub, and the next one would do so again before it answered anything.)
         self.may_merge = asyncio.Event()
         # The client's session that has begun a merge.
-        self.merging: Optional[int] = None
+        self.merging: int | None = None
         # Held while a release is checked on a copy of the store.
         self.checks = asyncio.Lock()
         # Set where the hub ends: no copy is made any longer.
-        self.is_ending = threading.Event()
+        self.is_stopped = threading.Event()
         # What is known of the imports, and the release whose files are hashed.
         self.list = ImportList(path)
-        self.hashing: Optional[Hashing] = None
+        self.hashing: Hashing | None = None
 
     async def change(self, session: int, line: bytes, user: str = "hub") -> bytes:
         word = first_word(line)
@@ -80,8 +79,7 @@ class Store:
         return reply
 
     async def imported(self, session: int, line: bytes, user: str) -> bytes:
-        """The reply to an import, for which room is made first, with what the program told of it.
-        """
+        """The reply to an import, with what the program told of it. Room is made for it first."""
         async with self.imports_lock:
             await self.make_room()
             name = name_in(line)
@@ -131,9 +129,8 @@ class Store:
             self.program.note_damage(shown(without_cr(line)), user, said[:-1])
         return with_notes(told.splitlines()[-MOST_NOTES:], said)
 
-    async def copy_for(self, name: bytes) -> "Optional[NewFile]":
-        """A copy of the store to check a release on; none where there is no folder of this name,
-        or no copy can be made."""
+    async def copy_for(self, name: bytes) -> "NewFile | None":
+        """A copy to check a release on; none where that has no folder, or there can be none."""
         path = self.path + COPY_ENDING
         if b"/" in name or not os.path.isdir(os.path.join(os.fsencode(self.releases), name)):
             return None
@@ -157,7 +154,7 @@ class Store:
         self.go_on()
 
     def go_on(self) -> None:
-        if self.is_ending.is_set():
+        if self.is_stopped.is_set():
             raise Refused("the hub ends")
 
     async def asked(self, session: int, line: bytes, user: str) -> bytes:
@@ -341,8 +338,7 @@ class NewFile:
 
 
 def filled(path: str, fill: Callable[[NewFile], object], is_kept: bool = True) -> NewFile:
-    """Makes a new file, and syncs it and its folder if it is to be kept. If that fails, the file is
-    removed."""
+    """Makes a new file, and syncs it and its folder if it is kept. If that fails it is removed."""
     try:
         made = NewFile(path)
         try:

@@ -16,8 +16,7 @@ from collections.abc import Iterable, Sequence
 from . import syntax as s
 from .. import limits
 from . import filtering, refining
-from .fields import Fields
-from .planning import NOTHING
+from .refining import NOTHING
 from .syntax import Ids
 from .terminology import Terminology
 from ..store import TooManyTerms
@@ -45,7 +44,7 @@ class Evaluation:
 
     def __init__(self, terminology: Terminology) -> None:
         self.store, self.kept = terminology, dict[s.Expression, Ids]()
-        self.fields = Fields(terminology)
+        self.fields = filtering.Fields(terminology)
 
     async def meant(self, e: s.Expression, among: Ids | None = None) -> Ids:
         """The concepts that an expression means, or those of `among`, all of which are ids of
@@ -120,8 +119,7 @@ class Evaluation:
         return found
 
     async def related_among(self, operator: str, of: s.Expression, among: Ids) -> Ids:
-        """Those among few concepts that a constraint operator means, by what is next to them, or
-        above."""
+        """Those among few concepts that an operator means, by what is next to them, or above."""
         if operator == s.BOTTOM:
             among = await self.meant(of, among)
             near = await self.store.near("DESCENDANTS", among)
@@ -140,17 +138,12 @@ class Evaluation:
     async def compound(self, e: s.Compound, among: Ids | None) -> Ids:
         if e.operator == s.OR:
             return union([await self.meant(part, among) for part in e.parts])
-        first, *others = e.parts
-        if e.operator == s.MINUS:
-            found = await self.meant(first, among)
-            for part in others:
-                found -= await self.meant(part, found)
-            return found
         # Those that are asked in one line come first, and of others only what these leave is asked.
-        first, *others = sorted(e.parts, key=s.cost)
+        first, *others = e.parts if e.operator == s.MINUS else sorted(e.parts, key=s.cost)
         found = await self.meant(first, among)
         for part in others:
-            found = await self.meant(part, found)
+            own = await self.meant(part, found)
+            found = found - own if e.operator == s.MINUS else own
         return found
 
     # ---- reference sets
@@ -210,8 +203,7 @@ class Evaluation:
 
     async def with_history(self, focus: s.Expression, by: str | s.Expression,
                            among: Ids | None) -> Ids:
-        """Adds the inactive concepts whose active associations have one of the set as target, one
-        step back."""
+        """Adds inactive concepts of which an active association has one of the set as target."""
         if among is not None and are_few(among):
             told = await self.store.replaced(among)
             targets = (row.target for row in told if is_id_of_concept(row.target))

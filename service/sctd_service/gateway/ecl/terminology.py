@@ -149,8 +149,7 @@ class Terminology:
 
     async def relationships(self, codes: Collection[str],
                             kinds: str) -> dict[str, frozenset[Stated]]:
-        """What active relationships of these kinds say of each of the concepts, "is a" among them,
-        each once."""
+        """What active relationships of these kinds say of each concept, once; "is a" among them."""
         found = dict.fromkeys(codes, frozenset[Stated]())
         for kind in kinds:
             missing = self.not_stated(codes, kind)
@@ -251,8 +250,7 @@ class Terminology:
         return [*found.values()]
 
     async def members_about(self, codes: Collection[str]) -> dict[str, list[RefsetMember]]:
-        """The active members of other than association reference sets that refer to each of the
-        components."""
+        """The active members that refer to each of the components, without associations."""
         return {code: members_of(reply) async for code, reply in self.told("ABOUT M", codes)}
 
     # ---- reference sets

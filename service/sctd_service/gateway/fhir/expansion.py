@@ -131,8 +131,7 @@ async def members_by_code(asked: Dated, value_set: ValueSet, wanted: Wanted) -> 
 
 
 async def entries_of(asked: Dated, found: Sequence[Member], wanted: Wanted) -> list[Json]:
-    """The concepts of a page, as an expansion has them. Other requests have their turn between its
-    slices."""
+    """The concepts of a page. Other requests have their turn between its slices."""
     entries: list[Json] = []
     for start in range(0, len(found), limits.SLICE_CONCEPTS):
         some = found[start : start + limits.SLICE_CONCEPTS]
@@ -158,8 +157,7 @@ async def slice_of_entries(asked: Dated, found: Sequence[Member], wanted: Wanted
 
 
 def is_chosen(designation: Json, wanted: Sequence[str]) -> bool:
-    """Whether a designation is of a use or a language that is asked for, as SYSTEM|CODE or as a
-    code alone."""
+    """Whether a designation is of a use or a language that is asked for, as SYSTEM|CODE or CODE."""
     codes = ((SCT, designation["use"]["code"]), (LANGUAGE_SYSTEM, designation["language"]))
     return not wanted or any(
         token in wanted for system, code in codes for token in (code, "%s|%s" % (system, code)))

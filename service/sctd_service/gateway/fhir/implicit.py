@@ -9,7 +9,7 @@ from ..problems import Json, Problem, invalid, not_found
 from ...snomed import is_concept_id, is_day
 from .inputs import SCT, Given
 from .parameters import Ways
-from .translation import MAPS, Asked, map_of, must_be_a_map, systems_of
+from .translation import MAPS, map_of, system_of_map
 from .valuesets import CONSTRAINT, FILTERS, IS, Sort, must_be_kept, value_set_of
 from .versions import Edition, Moment, OperationRequest
 
@@ -97,12 +97,10 @@ async def value_set(request: OperationRequest, address: str, version: str | None
 
 async def concept_map(request: OperationRequest, address: str, version: str | None = None) -> Json:
     versions, refset = map_of(address)
-    asked = request.at(*versions, version)
+    asked, url = request.at(*versions, version), address.partition("|")[0]
     if refset and refset not in MAPS:
-        own = Asked(versions[0], (refset,), "", False, None, None)
-        await must_be_a_map(asked, own, refset, systems_of(request).get(refset))
+        await system_of_map(asked, url, refset)
         await must_be_kept(asked, refset)
-    url = address.partition("|")[0]
     form = url.partition("?")[2].removesuffix(refset)
     targets = {} if refset and refset not in MAPS else {"targetUri": SCT + "?fhir_vs"}
     return {

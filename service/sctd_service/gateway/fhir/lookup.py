@@ -58,8 +58,7 @@ async def lookup(request: OperationRequest) -> Json:
 
 
 def is_wanted(name: str, wanted: set[str]) -> bool:
-    """Whether a property is asked for; where none is named, all are that cost no further round
-    trip."""
+    """Whether a property is asked for; all are where none is named, but what costs a round trip."""
     return not wanted or ALL in wanted or name in wanted
 
 
@@ -114,8 +113,7 @@ def property_parts(code: str, value: dict[str, Any], names: Mapping[str, str]) -
 
 
 def normal_form(facts: Facts, names: Mapping[str, str]) -> str:
-    """The concept's inferred definition as an expression with these names as terms, its role groups
-    apart."""
+    """The concept's inferred definition as an expression with these terms, its groups apart."""
     def term(code: str) -> str:
         name = names.get(code, code)
         return "%s|%s|" % (code, name) if name != code and "|" not in name else code

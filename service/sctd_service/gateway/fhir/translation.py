@@ -19,31 +19,19 @@ WIDER, NARROWER, DISJOINT, UNMATCHED = "wider", "narrower", "disjoint", "unmatch
 REVERSED = {WIDER: NARROWER}
 
 
-class Map(NamedTuple):
-    """An implicit concept map: the name of its association, and what that says of its target."""
-
-    name: str
-    equivalence: str
-
-
-# R4 gives the equivalences of the first four. It doesn't name the others, which have the code that
-# says as much as the definition of the reference set, and no more:
+# What the association of each implicit concept map says of its target. R4 gives the first four, and
+# doesn't name the others, which have the code that says as much as the definition of the reference
+# set, and no more:
 # - MOVED TO names the namespace that takes care of the concept from then on. That is no meaning of
 #   a record, so no code is translated by it.
 # - WAS A names a concept of which the code was a kind. (`subsumes` would say that it still is.)
 # - SIMILAR TO says that the meanings overlap, and not in which way.
 # - The last two leave it uncertain where the meanings part, as POSSIBLY EQUIVALENT TO does.
 MAPS = {
-    snomed.REPLACED_BY: Map("REPLACED BY", EQUIVALENT),
-    snomed.SAME_AS: Map("SAME AS", EQUAL),
-    snomed.POSSIBLY_EQUIVALENT_TO: Map("POSSIBLY EQUIVALENT TO", INEXACT),
-    snomed.ALTERNATIVE: Map("ALTERNATIVE", INEXACT),
-    snomed.MOVED_TO: Map("MOVED TO", DISJOINT),
-    snomed.WAS_A: Map("WAS A", WIDER),
-    snomed.SIMILAR_TO: Map("SIMILAR TO", RELATED),
-    snomed.POSSIBLY_REPLACED_BY: Map("POSSIBLY REPLACED BY", INEXACT),
-    snomed.PARTIALLY_EQUIVALENT_TO: Map("PARTIALLY EQUIVALENT TO", INEXACT),
-}
+    snomed.REPLACED_BY: EQUIVALENT, snomed.SAME_AS: EQUAL, snomed.POSSIBLY_EQUIVALENT_TO: INEXACT,
+    snomed.ALTERNATIVE: INEXACT, snomed.MOVED_TO: DISJOINT, snomed.WAS_A: WIDER,
+    snomed.SIMILAR_TO: RELATED, snomed.POSSIBLY_REPLACED_BY: INEXACT,
+    snomed.PARTIALLY_EQUIVALENT_TO: INEXACT}
 FORM, BARE = "fhir_cm=", "fhir_cm"
 # Of a simple map the release says nothing but that code and target belong together.
 OF_SIMPLE_MAPS = RELATED
@@ -119,8 +107,7 @@ def targets_of(request: OperationRequest) -> tuple[str | None, ValueSet | None]:
 
 
 def refsets_for(request: OperationRequest, refset: str, system: str | None) -> Sequence[str]:
-    """The maps that are asked for: one, or all that lead to a code system. The associations lead to
-    SNOMED CT."""
+    """The map that is asked for, or all to a code system: the associations are to SNOMED CT."""
     if refset:
         return (refset,)
     if system in (None, SCT):
@@ -145,7 +132,7 @@ async def replaced(request: Dated, asked: Asked) -> Json:
         [other for _, other in found], day, Language("", request.edition.languages))
     matches, version = [], request.moment.version
     for refset, other in sorted(found, key=lambda one: [*MAPS].index(one[0])):
-        means = MAPS[refset].equivalence
+        means = MAPS[refset]
         concept = {"system": SCT, "version": version, "code": other, "display": names[other]}
         means = REVERSED.get(means, means) if asked.is_reverse else means
         matches.append(match(asked.url(refset), means, concept))
@@ -154,11 +141,12 @@ async def replaced(request: Dated, asked: Asked) -> Json:
 
 def why_not(asked: Asked, found: set[str]) -> str:
     """Why a code isn't translated by these maps, or nothing."""
-    used = MAPS[asked.refsets[0]].name + " " if len(asked.refsets) == 1 else ""
+    is_one = len(asked.refsets) == 1
+    used = snomed.ASSOCIATIONS[asked.refsets[0]].upper() + " " if is_one else ""
     if not found:
         to = " to it" if asked.is_reverse else ""
         return "the code has no %sassociation%s on that day" % (used, to)
-    if all(MAPS[refset].equivalence == DISJOINT for refset in found):
+    if all(MAPS[refset] == DISJOINT for refset in found):
         return "MOVED TO names a namespace, which is no meaning of the code"
     return ""
 
@@ -171,8 +159,10 @@ async def mapped(request: Dated, asked: Asked) -> Json:
     matches, told, kept = [], [], False
     members = None
     for refset in asked.refsets:
-        system = systems_of(request).get(refset)
-        await must_be_a_map(request, asked, refset, system)
+        system = await system_of_map(request, asked.url(refset), refset)
+        if asked.system not in (None, system):
+            raise not_found(
+                "the code system %.100r isn't said to be that of the map" % asked.system)
         if members is None:
             await request.must_have(asked.code)
             members = (await request.view.members_about([asked.code], request.day))[0]
@@ -187,16 +177,16 @@ async def mapped(request: Dated, asked: Asked) -> Json:
     return translated(request, matches, why, told)
 
 
-async def must_be_a_map(request: Dated, asked: Asked, refset: str, system: str | None) -> None:
+async def system_of_map(request: Dated, url: str, refset: str) -> str | None:
+    """The code system to which a map leads, if it is known."""
+    system = systems_of(request).get(refset)
     if system is None and not await request.view.is_within(refset, SIMPLE_MAP, request.day):
-        raise not_a_map(asked.url(refset))
-    if asked.system not in (None, system):
-        raise not_found("the code system %.100r isn't said to be that of the map" % asked.system)
+        raise not_a_map(url)
+    return system
 
 
 def rows_of_map(refset: str, members: Sequence[Sequence[str]]) -> list[dict[str, str]]:
-    """The members of a map by the names of their columns, each once: those of an extended map by
-    group and priority."""
+    """The members of a map by the names of their columns, each once, by group and priority."""
     if any(len(further) not in SHAPES for further in members):
         raise not_supported("the members of %s have other columns than a map" % refset)
     once = dict.fromkeys(tuple(further) for further in members)

@@ -20,24 +20,10 @@ from .versions import Dated
 CANONICAL = re.compile(r"(.*)\|(http://snomed\.info/sct[^|]*)\Z", re.DOTALL)
 # What stands in no address: an expression that has such letters isn't encoded a second time.
 UNENCODED = re.compile(r'[\s<>"{}|^]')
-
-
-class Sort(enum.IntEnum):
-    """What a value set's codes have in common. The sorts stand in the order of how many codes sets
-    of them have, as a rule."""
-
-    OF_OTHERS = enum.auto()
-    LISTED = enum.auto()
-    ABOVE = enum.auto()
-    ARE_REFSETS = enum.auto()
-    IN_REFSET = enum.auto()
-    COMPOSED = enum.auto()
-    EXPRESSION = enum.auto()
-    BELOW = enum.auto()
-    WITHIN = enum.auto()
-    ANY = enum.auto()
-
-
+# What a value set's codes have in common: first that of which there are the fewest, as a rule.
+Sort = enum.IntEnum("Sort", (
+    "OF_OTHERS", "LISTED", "ABOVE", "ARE_REFSETS", "IN_REFSET", "COMPOSED", "EXPRESSION", "BELOW",
+    "WITHIN", "ANY"))
 # What stands behind the question mark of an address: a code follows a slash.
 FORMS = {"fhir_vs": Sort.ANY, "fhir_vs=refset": Sort.ARE_REFSETS, "fhir_vs=isa/": Sort.WITHIN,
          "fhir_vs=refset/": Sort.IN_REFSET}
@@ -352,8 +338,7 @@ async def refset_codes(request: Dated, refset: str) -> Sequence[str]:
 
 
 async def must_be_kept(request: Dated, refset: str) -> None:
-    """Refuses a reference set of which the store has no member of any day: it isn't known to be
-    empty."""
+    """Refuses a reference set without a member of any day, which isn't known to be empty."""
     if not await refsets.was_kept(request.view, refset):
         await request.must_have(refset)
         raise not_supported("the store has no members of the reference set %s" % refset)

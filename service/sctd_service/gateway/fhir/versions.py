@@ -95,7 +95,7 @@ def day_of_record(date: str) -> str:
     return day
 
 
-@dataclass(frozen=True)
+@dataclass
 class OperationRequest:
     """An operation's parameters, the store as the request sees it, and the store's edition."""
 
@@ -104,8 +104,7 @@ class OperationRequest:
     query: Query
 
     def at(self, *versions: str | None) -> "Dated":
-        """The request with the moment of its answer; `date` is that of the record where the
-        operation knows it."""
+        """The request with its moment; `date` is that of the record where it is taken."""
         named = [*versions, *self.query.canonical]
         moment = self.edition.moment(self.view, named, self.query.text("date"))
         return Dated(self.edition, self.view, self.query, moment)
@@ -118,7 +117,7 @@ class OperationRequest:
         return Language("", house) if tag is None else language_of(tag, house)
 
 
-@dataclass(frozen=True)
+@dataclass
 class Dated(OperationRequest):
     """A request whose answer is of a moment."""
 
