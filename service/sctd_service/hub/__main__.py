@@ -113,9 +113,6 @@ class Listener:
             os.chmod(path, 0o660)
         self.identity = sockets.identity_of(path)
 
-    def remove(self) -> None:
-        sockets.remove(self.path, self.identity)
-
 
 async def serve_clients(hub: Hub, listeners: list[Listener]) -> int:
     for number in (signal.SIGTERM, signal.SIGINT):
@@ -136,7 +133,7 @@ async def serve_clients(hub: Hub, listeners: list[Listener]) -> int:
         tell("hub: the program has ended")
     for server, listener in zip(servers, listeners):
         server.close()
-        listener.remove()
+        sockets.remove(listener.path, listener.identity)
     await hub.stop()
     for duty in duties:
         duty.cancel()
