@@ -109,7 +109,7 @@ def check_request(request: h11.Request) -> None:
     length = headers.get(b"content-length")
     if length is None and request.method in (b"POST", b"PUT", b"PATCH"):
         raise BadRequestError(411, "a body needs the header Content-Length")
-    if int(length or 0) > (most := room_for(request)):
+    if length and int(length) > (most := room_for(request)):
         raise BadRequestError(413, "a body may have %d bytes" % most)
 
 

@@ -231,7 +231,7 @@ class View:
     async def delta(self, kind: str, first: str, last: str) -> AsyncIterator[Sequence[AnyRow]]:
         """Page by page the rows of a kind on the last day that changed after the first."""
         async for reply in self.pages("DELTA %s %s %s" % (kind, first, last)):
-            yield rows_about(kind, reply)
+            yield READERS[kind](reply)
 
     async def rows_on(self, components: Sequence[tuple[str, str]], day: str) -> list[AnyRow | None]:
         """The row on a day, if it had one, of each component: of its kind and its id."""
@@ -239,7 +239,7 @@ class View:
         for start in range(0, len(components), limits.HUB_BATCH):
             some = components[start : start + limits.HUB_BATCH]
             told = await self.ask(["GET %s %s %s" % (*one, day) for one in some], keep=False)
-            found += [next(iter(rows_about(kind, reply)), None)
+            found += [next(iter(READERS[kind](reply)), None)
                       for (kind, _), reply in zip(some, told)]
         return found
 
@@ -367,7 +367,7 @@ class View:
         """What was ever said of the concept and about it: all versions of each component, those
         that were said first before others of their kind."""
         told = await self.ask(["TIMELINE %s %s" % (kind, code) for kind in ABOUT], keep=False)
-        about = (by_component(rows_about(kind, reply)) for kind, reply in zip(ABOUT, told))
+        about = (by_component(READERS[kind](reply)) for kind, reply in zip(ABOUT, told))
         return [await self.versions(code), *itertools.chain.from_iterable(about)]
 
 
@@ -377,10 +377,6 @@ def called(code: str, day: str, refset: str) -> str:
 
 def ids(reply: Reply) -> list[str]:
     return [line.removeprefix("ID ") for line in reply[:-1]]
-
-
-def rows_about(kind: str, reply: Reply) -> Sequence[AnyRow]:
-    return READERS[kind](reply)
 
 
 # How a reply with rows of a kind is read.
