@@ -6,8 +6,7 @@ import time
 
 
 def tell(text: str) -> None:
-    """Writes lines to standard error. Where that can't be, as on a full disk, clients are answered
-    nevertheless."""
+    """Writes lines to standard error, or nothing where that can't be, as on a full disk."""
     with contextlib.suppress(OSError):
         print(text, file=sys.stderr, flush=True)
 

@@ -136,8 +136,7 @@ class HubClient:
             key = b" ".join(rows[-1].split(b"\t")[:2]).decode() if len(rows) >= limit else ""
 
     def pages_of_all(self, question: str, limit: int) -> Iterator[tuple[str, list[bytes]]]:
-        """The rows of all kinds, page by page with their kind. A store below layout 3 has none of
-        the last one."""
+        """Pages of the rows of all kinds. A store below layout 3 has none of the last kind."""
         try:
             for kind in KINDS:
                 for page in self.pages("%s %s" % (question, kind), limit):

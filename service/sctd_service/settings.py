@@ -32,7 +32,6 @@ def parsed(parser: argparse.ArgumentParser, table: str, words: Sequence[str]) ->
 
 
 def version_of(command: str) -> str:
-    """What `--version` prints."""
     commit = COMMIT.read_text("utf-8").strip() if COMMIT.exists() else "in a clone"
     return "%s %s, %s" % (command, VERSION, commit)
 
@@ -52,7 +51,6 @@ def with_files(words: Sequence[str], table: str) -> Iterator[str]:
 
 
 def words_of_file(path: str, table: str) -> Iterator[str]:
-    """The options that a table of a file has."""
     with open(path, "rb") as file:
         try:
             settings = tomllib.load(file)
@@ -67,7 +65,6 @@ def words_of_file(path: str, table: str) -> Iterator[str]:
 
 
 def option_of(path: str, key: str, value: object) -> Iterator[str]:
-    """An option with one value."""
     if isinstance(value, bool):
         if value:
             yield "--" + key

@@ -33,9 +33,14 @@ POSSIBLY_REPLACED_BY = "1186921001"
 PARTIALLY_EQUIVALENT_TO = "1186924009"
 WAS_A = "900000000000528000"
 SIMILAR_TO = "900000000000529008"
-ASSOCIATIONS = (
-    MOVED_FROM, MOVED_TO, REFERS_TO, REPLACED_BY, SAME_AS, POSSIBLY_EQUIVALENT_TO, ALTERNATIVE,
-    POSSIBLY_REPLACED_BY, PARTIALLY_EQUIVALENT_TO, WAS_A, SIMILAR_TO)
+# What they are called, in the order in which people are told of them.
+ASSOCIATIONS = {
+    REPLACED_BY: "Replaced by", SAME_AS: "Same as",
+    POSSIBLY_EQUIVALENT_TO: "Possibly equivalent to", ALTERNATIVE: "Alternative",
+    MOVED_TO: "Moved to", WAS_A: "Was a", SIMILAR_TO: "Similar to",
+    POSSIBLY_REPLACED_BY: "Possibly replaced by",
+    PARTIALLY_EQUIVALENT_TO: "Partially equivalent to", MOVED_FROM: "Moved from",
+    REFERS_TO: "Refers to"}
 PRIMITIVE, DEFINED = "900000000000074008", "900000000000073002"
 CASE_INSENSITIVE = "900000000000448009"
 INITIAL_CASE_INSENSITIVE = "900000000000020002"
@@ -50,8 +55,6 @@ FIRST_YEAR = 1000
 
 
 class Concept(NamedTuple):
-    """A row of a concept file."""
-
     id: str
     time: str
     active: str
@@ -64,8 +67,6 @@ class Concept(NamedTuple):
 
 
 class Description(NamedTuple):
-    """A row of a description file."""
-
     id: str
     time: str
     active: str
@@ -78,8 +79,7 @@ class Description(NamedTuple):
 
 
 class Relationship(NamedTuple):
-    """A row of a relationship file. With a concrete value the target is that value, such as
-    `#5`."""
+    """A row of a relationship file. The target may be a concrete value, such as `#5`."""
 
     id: str
     time: str
@@ -94,8 +94,6 @@ class Relationship(NamedTuple):
 
 
 class Association(NamedTuple):
-    """A row of an association reference set."""
-
     id: str
     time: str
     active: str
@@ -125,8 +123,7 @@ class Called(NamedTuple):
 
     @property
     def is_preferred_term(self) -> bool:
-        """Whether it is by what the concept is called. A fully specified name is preferred among
-        those of its kind alone."""
+        """Whether it names the concept, as a name preferred among its own kind alone doesn't."""
         return self.description.type == SYNONYM and PREFERRED in self.acceptabilities
 
 

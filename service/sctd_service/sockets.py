@@ -4,24 +4,19 @@ import errno
 import os
 import socket
 import stat
-from typing import NamedTuple, Optional
+
+# What tells a socket from any other that has its name later: its device, its number there, and when
+# it changed, in nanoseconds.
+Identity = tuple[int, int, int]
 
 
-class Identity(NamedTuple):
-    """What tells a socket from any other that has its name later."""
-
-    device: int
-    inode: int
-    changed: int
-
-
-def identity_of(path: str) -> Optional[Identity]:
+def identity_of(path: str) -> Identity | None:
     """That of the socket which a path names; None where there is none."""
     try:
         found = os.lstat(path)
     except OSError:
         return None
-    return Identity(found.st_dev, found.st_ino, found.st_ctime_ns)
+    return found.st_dev, found.st_ino, found.st_ctime_ns
 
 
 def clear(path: str) -> None:
@@ -38,7 +33,7 @@ def clear(path: str) -> None:
     os.unlink(path)
 
 
-def remove(path: str, own: Optional[Identity]) -> None:
+def remove(path: str, own: Identity | None) -> None:
     """Removes a socket's name, if it is still that of the own socket."""
     if own is not None and identity_of(path) == own:
         os.unlink(path)

@@ -15,7 +15,7 @@ from sctd_service.gateway.page_changes import Between, answer, changed_by_concep
 from sctd_service.gateway.hub import Reply
 from sctd_service.gateway.problems import Problem
 from sctd_service.gateway.store import ANY, AnyRow, View
-from sctd_service.gateway.tables import guarded
+from sctd_service.gateway.frame import Shown, guarded
 from sctd_service.snomed import Concept, Language
 
 from .asked import Asked
@@ -170,7 +170,8 @@ class TestChanges(Asked):
 
     def crowd(self, count: int, **more: str) -> str:
         words = {"concept": ROOT, "from": "2020-01-01", **more}
-        return asyncio.run(answer(Edition("1"), Crowd(count), words, False)).body.decode()
+        found = asyncio.run(answer(Edition("1"), Crowd(count), words, False))
+        return found.content if isinstance(found, Shown) else found.body.decode()
 
     def test_the_bound_is_said(self) -> None:
         """The page shows so many concepts, and says that the file has all."""

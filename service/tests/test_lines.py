@@ -7,7 +7,6 @@ from typing import cast
 
 import pytest
 
-from sctd_service import sockets
 from sctd_service.gateway import hub
 from sctd_service.gateway.hub import HubRefused, encoded, refusal
 from sctd_service.protocol import NotAReply, Replies
@@ -46,7 +45,7 @@ class TestLines:
         async def told() -> list[hub.Reply]:
             reader = asyncio.StreamReader()
             writer = cast(asyncio.StreamWriter, SimpleNamespace(write=lambda data: None))
-            connection = hub.Connection(reader, writer, sockets.Identity(0, 0, 0))
+            connection = hub.Connection(reader, writer, (0, 0, 0))
             reader.feed_data(b"END 0\nERR 16 NotKept\n")
             later = asyncio.get_running_loop().call_later
             later(0.05, reader.feed_data, b"DATE 20200131\nEND 1\n")

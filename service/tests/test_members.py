@@ -11,9 +11,8 @@ from urllib.parse import urlencode
 import pytest
 from make_release import sctid
 from sctd_service.gateway import languages, limits, refsets
-from sctd_service.gateway.hub import HubGone
-from sctd_service.gateway.page_history import Names
-from sctd_service.gateway.page_members import memberships, refset_entries
+from sctd_service.gateway.hub import HubGone, Reply
+from sctd_service.gateway.page_history import Names, memberships, refset_entries
 from sctd_service.gateway.pool import Codes, Member, Session
 from sctd_service.gateway.problems import NO_MEMBERS, Problem
 from sctd_service.snomed import RefsetMember
@@ -643,12 +642,14 @@ class ManyMembers(View):
         self.session = cast(Session, NothingRemembered())
         self.count, self.asked = count, list[str]()
 
-    async def values(self, refset: str, day: str, after: str,
-                     keep: bool = True) -> list[RefsetMember]:
+    async def told(self, line: str, keep: bool = True) -> Reply:
+        *_, after, limit = line.split(" ")
+        assert line.startswith("VALUES ")
         self.asked.append(after)
         first = 0 if after == "-" else int(after) // 1000
-        last = min(first + limits.QUESTION_ROWS, self.count)
-        return [member("%d000" % number) for number in range(first + 1, last + 1)]
+        last = min(first + int(limit), self.count)
+        rows = ("ROW m\t20150131\t1\t1\t2\t%d000" % number for number in range(first + 1, last + 1))
+        return (*rows, "END %d" % (last - first))
 
     async def members(self, codes: Sequence[str], day: str, keep: bool = True) -> list[Member]:
         return [Member(code, code.endswith("2000")) for code in codes]
@@ -713,10 +714,10 @@ class TestMemberships:
 
     def test_more_than_are_told(self) -> None:
         rows = [[member("7")] for _ in range(limits.TOLD_MEMBERS + 3)]
-        entries = refset_entries(memberships(rows, "7", "20200101"), Names({}, {}))
+        entries = refset_entries(memberships(rows, "7", "20200101"), Names())
         assert len(entries) == 1
         assert "and 3 more" in "".join(entries.values())
         rows = [[member("7")._replace(refset=str(one))] for one in range(limits.TOLD_REFSETS + 1)]
-        entries = refset_entries(memberships(rows, "7", "20200101"), Names({}, {}))
+        entries = refset_entries(memberships(rows, "7", "20200101"), Names())
         assert len(entries) == limits.TOLD_REFSETS + 1
         assert "and others" in entries["more"]

@@ -108,7 +108,7 @@ class TestPage(Asked):
     def test_a_component_that_names_another_concept_from_then_on(self) -> None:
         """A version may have another target, or another type, and stay active."""
         called = {"11": "Eleven", "12": "Twelve", "111": "Eleven", "7": "Site"}
-        names = Names(called, {REPLACED_BY: "Replaced by"})
+        names = Names(called)
         member = Association("m", "20200131", "1", "1", REPLACED_BY, "10", "11")
         part = Relationship("r", "20200131", "1", "1", "10", "11", "0", IS_A, "i", "m")
         cases: list[tuple[AnyRow, AnyRow, list[str]]] = [
@@ -271,7 +271,8 @@ class TestPage(Asked):
         before, new = codes[:-1], codes
         named = told_first(new, before)
         assert len(named) == limits.TOLD_CONCEPTS and named[0] == codes[-1]
-        sides = [Side("20200101", True, None, {code: code for code in told_first(own, other)})
+        sides = [Side("20200101", True, None,
+                      Names({code: code for code in told_first(own, other)}))
                  for own, other in ((before, new), (new, before))]
         first, second = (side.some_of(own, side.link) for side, own in zip(sides, (before, new)))
         assert [key for key in second if key not in first] == [codes[-1]]

@@ -16,7 +16,6 @@ from sctd_service.gateway.pool import Pool, Session
 from sctd_service.gateway.problems import Problem
 from sctd_service.gateway.records import records_of
 from sctd_service.gateway.store import View
-from sctd_service.sockets import Identity
 
 from .asked import Asked
 from .fixtures import Answer, version
@@ -37,7 +36,7 @@ class Hub(Connection):
     """A hub that has nothing of anything."""
 
     def __init__(self) -> None:
-        self.identity = Identity(0, 0, 0)
+        self.identity = (0, 0, 0)
 
     async def ask(self, lines: Sequence[str]) -> list[Reply]:
         return [("END 0",) for _ in lines]

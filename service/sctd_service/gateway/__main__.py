@@ -19,6 +19,7 @@ import signal
 import sys
 
 from .. import settings, sockets
+from ..logs import tell
 from ..snomed import distinct, is_concept_id
 from . import http, limits
 from .app import App, refused_request
@@ -110,16 +111,12 @@ async def is_of(pool: Pool, edition: Edition) -> bool:
         async with asyncio.timeout(limits.BEGIN_SECONDS) as left, pool.session(None) as session:
             view = View(session)
             if not await view.keeps_members():
-                tell(NO_MEMBERS)
+                tell("sctd-gateway: " + NO_MEMBERS)
             left.reschedule(asyncio.get_running_loop().time() + limits.EDITION_SECONDS)
             if view.latest and not await view.has_module(edition.module):
-                tell(NO_ROWS % edition.module)
+                tell("sctd-gateway: " + NO_ROWS % edition.module)
                 return False
     return True
-
-
-def tell(text: str) -> None:
-    print("sctd-gateway: %s" % text, file=sys.stderr, flush=True)
 
 
 async def serve(found: argparse.Namespace) -> int:
@@ -132,7 +129,7 @@ async def serve(found: argparse.Namespace) -> int:
     try:
         listens = await listening(server, found.listen)
     except OSError as error:
-        tell("%s: %s" % (found.listen, error))
+        tell("sctd-gateway: %s: %s" % (found.listen, error))
         return 1
     own = sockets.identity_of(found.listen) if "/" in found.listen else None
     end = asyncio.Event()

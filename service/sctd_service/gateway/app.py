@@ -8,6 +8,8 @@ import traceback
 from collections.abc import AsyncIterator, Awaitable, Sequence
 from urllib.parse import unquote
 
+from prometheus_client import CONTENT_TYPE_LATEST
+
 from .. import VERSION
 from ..logs import tell
 from . import delivery, http, known, limits, metrics, pages
@@ -15,9 +17,8 @@ from .fhir import Operation, batch, operation_at, operation_of
 from .fhir.inputs import Given, Query, parsed, posted
 from .fhir.outputs import dumped, text_in_parts, written
 from .fhir.parameters import with_warnings
-from .fhir.request import OperationRequest
-from .fhir.versions import Edition
-from .frame import FOLDER, JSON, Answer
+from .fhir.versions import Edition, OperationRequest
+from .frame import FOLDER, JSON, SAFE
 from .hub import NEEDS_LATER_LAYOUT, NOT_KEPT, OUT_OF_MEMORY, HubGone, HubRefused, Reply
 from .pages import PAGES
 from .pool import DAMAGED, UNLISTED, Pool
@@ -28,13 +29,6 @@ from .problems import (
 from .store import View
 
 FHIR = "application/fhir+json; charset=utf-8"
-POLICY = (
-    "default-src 'none'; script-src 'self'; style-src 'self'; connect-src 'self'; "
-    "img-src data:; form-action 'self'; base-uri 'none'; frame-ancestors 'none'")
-SAFE: http.Headers = (
-    ("Cache-Control", "private, no-store"), ("Content-Security-Policy", POLICY),
-    ("Cross-Origin-Resource-Policy", "same-origin"), ("Referrer-Policy", "no-referrer"),
-    ("X-Content-Type-Options", "nosniff"))
 VARIED: http.Headers = (*SAFE, ("Vary", "Prefer"))
 FILES = {"/page.css": "text/css; charset=utf-8", "/page.js": "text/javascript; charset=utf-8"}
 # What a proxy and a monitor ask: whether the gateway runs, whether the store can be asked, and how
@@ -70,8 +64,7 @@ OF_ALL = (FORMAT, PRETTY, known.NAME)
 
 
 class App:
-    """The answers to requests. `walks` are the places of those that may ask thousands of
-    questions."""
+    """The answers to requests. `walks` are places of those that may ask thousands of questions."""
 
     def __init__(self, pool: Pool, edition: Edition, origins: Sequence[str] = (),
                  is_strict: bool = False) -> None:
@@ -240,7 +233,7 @@ class App:
         day = known.day_in(named, pin)
         async with self.view(request, pin, day, PAGES[path].is_walk) as view:
             shown = pages.answered(path, self.edition, view, words, pin is not None)
-            return await with_pin(view, request, sent(shown))
+            return await with_pin(view, request, shown)
 
     async def health(self, pin: int | None) -> http.Response:
         """Whether the store can be asked, in time whatever hangs."""
@@ -266,10 +259,9 @@ class App:
                 told = await self.pool.asked("METRICS")
                 async with self.pool.opened(None) as session:
                     view = View(session)
-        return http.Response(200, metrics.KIND, self.metrics.text(view, told), SAFE)
+        return http.Response(200, CONTENT_TYPE_LATEST, self.metrics.text(view, told), SAFE)
 
     def count(self, request: http.Request | None, response: http.Response, seconds: float) -> None:
-        """Counts an answer."""
         operation = counted_as(request.target) if request else UNREAD
         self.metrics.answered(operation, response.status, seconds)
 
@@ -279,14 +271,7 @@ def health_of(status: int, state: Json) -> http.Response:
 
 
 def safe(status: int) -> http.Headers:
-    """The headers of an answer with this status."""
     return (*SAFE, ("Retry-After", str(limits.RETRY_SECONDS))) if status == 503 else SAFE
-
-
-async def sent(shown: Awaitable[Answer]) -> http.Response:
-    """A page as it is sent."""
-    answer = await shown
-    return http.Response(200, answer.kind, answer.body, (*SAFE, *answer.headers))
 
 
 async def with_pin(view: View, request: http.Request,
@@ -309,7 +294,6 @@ def too_large() -> Problem:
 
 
 def counted_as(target: str) -> str:
-    """What a request is counted as: an operation, a page, or one of all others."""
     found = PATH.match(target.partition("?")[0])
     path = unquote(found[2]).removeprefix(FHIR_BASE) if found else OTHER
     if path in BASES:
@@ -337,8 +321,7 @@ def check_body(request: http.Request) -> None:
 
 
 def problem_of(error: Exception) -> Problem:
-    """What a client is told of an error. A fault of the gateway or of `sctd` goes to standard
-    error."""
+    """What a client is told of an error. A fault of the gateway or of `sctd` is logged."""
     if isinstance(error, Problem):
         return error
     if isinstance(error, (HubGone, TimeoutError)):
@@ -360,7 +343,7 @@ async def refused(problem: Problem, request: http.Request) -> http.Response:
     found = PATH.match(request.target.partition("?")[0])
     path, is_pinned = (unquote(found[2]), found[1] is not None) if found else ("", False)
     page = await pages.refused(path, request, problem.text, is_pinned)
-    return http.Response(problem.status, page.kind, page.body, headers_of(problem))
+    return page._replace(status=problem.status, headers=headers_of(problem))
 
 
 def refusal(problem: Problem) -> http.Response:

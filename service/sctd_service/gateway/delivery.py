@@ -19,8 +19,6 @@ PACKED_LEVEL = 2
 FOR_GOOD = "private, max-age=31536000, immutable"
 # Any other one may be kept, and has to be asked for again.
 ASKED_AGAIN = "private, no-cache"
-PAGES_METHODS = "GET, HEAD, POST, OPTIONS"
-PAGES_SEND = "Accept, Content-Type, If-None-Match, Prefer"
 PAGES_READ = "ETag, X-Sctd-Pin, X-Sctd-Receipt, X-Sctd-Known, Retry-After"
 PREFLIGHT_SECONDS = 600
 
@@ -31,17 +29,13 @@ def replaced(headers: Headers, *new: tuple[str, str]) -> Headers:
     return (*(one for one in headers if one[0] not in names), *new)
 
 
-def takes_packed(request: Request) -> bool:
-    found = PACKED.search(request.headers.get("accept-encoding", ""))
-    return found is not None and (found[1] is None or found[1].strip("0.") != "")
-
-
 async def packed(request: Request, response: Response) -> Response:
     """The answer, compressed where that saves something and the client takes it."""
     if len(response.body) < limits.PACKED_BYTES:
         return response
     headers = (*response.headers, ("Vary", "Accept-Encoding"))
-    if not takes_packed(request):
+    wanted = PACKED.search(request.headers.get("accept-encoding", ""))
+    if not wanted or wanted[1] and not wanted[1].strip("0."):
         return response._replace(headers=headers)
     if len(response.body) < limits.PACKED_APART_BYTES:
         body = gzip.compress(response.body, PACKED_LEVEL, mtime=0)
@@ -80,7 +74,7 @@ def shared(request: Request, response: Response, origins: Sequence[str]) -> Resp
             ("Access-Control-Allow-Origin", origin), ("Access-Control-Expose-Headers", PAGES_READ))
         if request.method == "OPTIONS":
             headers += (
-                ("Access-Control-Allow-Methods", PAGES_METHODS),
-                ("Access-Control-Allow-Headers", PAGES_SEND),
+                ("Access-Control-Allow-Methods", "GET, HEAD, POST, OPTIONS"),
+                ("Access-Control-Allow-Headers", "Accept, Content-Type, If-None-Match, Prefer"),
                 ("Access-Control-Max-Age", str(PREFLIGHT_SECONDS)))
     return response._replace(headers=headers)

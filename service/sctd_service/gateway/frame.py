@@ -1,18 +1,20 @@
-"""What all pages have in common: the frame with its title and links, the forms, and days.
+"""What all pages have in common: the frame with its title and links, the forms, days, and tables.
 
 Everything is made on the server, so the pages work without a script.
 """
 
 import asyncio
+import csv
+import io
 import re
-from collections.abc import Callable, Mapping, Sequence
+from collections.abc import Callable, Iterable, Mapping, Sequence
 from pathlib import Path
 from typing import NamedTuple, TypeVar
 
 from markupsafe import Markup
 
 from . import limits
-from .http import Headers
+from .http import Headers, Response
 from .markup import joined, tag, time
 from .problems import invalid
 from .store import Known, View
@@ -29,8 +31,18 @@ WORDS = {RECORD: ("q", "date", "other", "first", "known"),
          RECORDS: ("list", "file", "format", "known"),
          CHANGES: ("concept", "from", "to", "format", "known")}
 TITLE = "The record as it stood"
+POLICY = (
+    "default-src 'none'; script-src 'self'; style-src 'self'; connect-src 'self'; "
+    "img-src data:; form-action 'self'; base-uri 'none'; frame-ancestors 'none'")
+SAFE: Headers = (
+    ("Cache-Control", "private, no-store"), ("Content-Security-Policy", POLICY),
+    ("Cross-Origin-Resource-Policy", "same-origin"), ("Referrer-Policy", "no-referrer"),
+    ("X-Content-Type-Options", "nosniff"))
 # A link to a page of the same pin.
 LINK = re.compile(r'href="(?:\./)?((?:changes)?\?)')
+# With what a cell begins that a spreadsheet calculates, in its wide forms too, or that moves what
+# is behind it into a cell of its own.
+FORMULA = re.compile("[=+\\-@\t\r\n\uff1d\uff0b\uff0d\uff20]")
 WITH_HYPHENS = re.compile(r"[0-9]{4}-[0-9]{2}-[0-9]{2}\Z", re.ASCII)
 HTML, JSON, CSV = ("%s; charset=utf-8" % kind for kind in (
     "text/html", "application/json", "text/csv"))
@@ -54,16 +66,8 @@ class Shown(NamedTuple):
     content: Markup
 
 
-class Answer(NamedTuple):
-    """What is sent for a page."""
-
-    body: bytes
-    kind: str = HTML
-    headers: Headers = ()
-
-
 def framed(place: str, form: Mapping[str, str], shown: Shown, view: View | None,
-           is_pinned: bool) -> Answer:
+           is_pinned: bool) -> Response:
     """One of the pages, with its form as it was filled in."""
     state, content = "", shown.content
     if view is not None and view.known:
@@ -78,7 +82,7 @@ def framed(place: str, form: Mapping[str, str], shown: Shown, view: View | None,
     page = FRAME.format(
         title=title, kind=LINKS[place][0].strip("./") or "record", pages=pages(place), form=filled,
         content=content, state=state)
-    return Answer(page.encode())
+    return Response(200, HTML, page.encode(), SAFE)
 
 
 def as_was_known(view: View, known: Known, content: Markup) -> Markup:
@@ -116,7 +120,6 @@ def day_of(text: str, latest: str) -> str:
 
 
 def wants_file(form: Mapping[str, str]) -> bool:
-    """Whether an answer is wanted as CSV."""
     wanted = form.get("format", "")
     if wanted not in ("", "html", "csv"):
         raise invalid("the format is html or csv")
@@ -126,3 +129,23 @@ def wants_file(form: Mapping[str, str]) -> bool:
 def for_good(view: View, target: str) -> str:
     """An address below the pin, seen from one that has none."""
     return "pin/%d/%s" % (view.pin, target)
+
+
+def listed(caption: str, heads: Iterable[str], body: Iterable[str]) -> Markup:
+    """A table with a row for each of several records or concepts."""
+    head = tag("thead", tag("tr", *(tag("th", text, scope="col") for text in heads)))
+    return tag("table", tag("caption", caption), head, tag("tbody", *body), class_="listed")
+
+
+def guarded(cell: str) -> str:
+    """The cell as a text: an apostrophe stands before what would be calculated."""
+    return "'" + cell if FORMULA.match(cell) else cell
+
+
+def csv_of(name: str, head: Sequence[str], rows: Iterable[Sequence[str]]) -> Response:
+    written = io.StringIO()
+    writer = csv.writer(written)
+    writer.writerow(head)
+    writer.writerows(map(guarded, row) for row in rows)
+    named = ("Content-Disposition", 'attachment; filename="%s.csv"' % name)
+    return Response(200, CSV, written.getvalue().encode(), (*SAFE, named))

@@ -21,16 +21,12 @@ from ..logs import tell
 
 READ_BYTES = 1 << 16
 END_OF_HEAD = b"\r\n\r\n"
-METHODS_WITH_BODY = ("POST", "PUT", "PATCH")
-VERSIONS = (b"1.0", b"1.1")
-WITHOUT_BODY = (204, 304)
 # Where bodies are sent to that may be longer than others, and how long: FHIR and lists.
 LONGER = {
     re.compile(rb"(?:https?://[^/?#]+)?(?:/pin/[0-9]{1,10})?" + path + rb"(?:\?|\Z)"): most
     for path, most in (
         (rb"/fhir(?:/[^?]*)?", limits.FHIR_BODY_BYTES),
         (rb"/records", limits.RECORDS_BODY_BYTES))}
-CONTINUE = b"HTTP/1.1 100 Continue\r\n\r\n"
 # A path, behind a scheme and an authority where a client sends them too.
 TARGET = re.compile(rb"(?:https?://[^/?#\x00-\x20\x7f-\xff]+)?(/[\x21-\x7e]*)\Z", re.I)
 # What a head is made of: lines of printable ASCII and tabs, each of which ends with CR LF. A line
@@ -73,7 +69,7 @@ class BadRequestError(Exception):
 
 
 class ClientLeftError(Exception):
-    """The client has left, or has said nothing for too long."""
+    """The client has left."""
 
 
 Answer = Callable[[Request], Awaitable[Response]]
@@ -99,7 +95,7 @@ def check_head(head: bytes) -> None:
 
 def check_request(request: h11.Request) -> None:
     """Refuses what isn't answered whatever it asks."""
-    if request.http_version not in VERSIONS:
+    if request.http_version not in (b"1.0", b"1.1"):
         raise BadRequestError(505, "HTTP/1.1 is spoken here")
     if not TARGET.match(request.target):
         raise BadRequestError(400, "the target isn't a path, nor an address with one")
@@ -111,16 +107,13 @@ def check_request(request: h11.Request) -> None:
             raise BadRequestError(400, "HTTP/1.0 has no chunks")
         return
     length = headers.get(b"content-length")
-    if length is None:
-        if request.method.decode() in METHODS_WITH_BODY:
-            raise BadRequestError(411, "a body needs the header Content-Length")
-        return
-    if int(length) > (most := room_for(request)):
+    if length is None and request.method in (b"POST", b"PUT", b"PATCH"):
+        raise BadRequestError(411, "a body needs the header Content-Length")
+    if length and int(length) > (most := room_for(request)):
         raise BadRequestError(413, "a body may have %d bytes" % most)
 
 
 def room_for(request: h11.Request) -> int:
-    """How many bytes the body of a request may have."""
     longer = LONGER.items() if request.method == b"POST" else ()
     return next((most for target, most in longer if target.match(request.target)),
                 limits.BODY_BYTES)
@@ -146,11 +139,8 @@ class Client:
             # Others have their turn between the requests that one client has sent together.
             await asyncio.sleep(0)
         else:
-            try:
-                async with asyncio.timeout(limits.IDLE_SECONDS):
-                    self.rest = await self.more()
-            except TimeoutError:
-                raise ClientLeftError from None
+            async with asyncio.timeout(limits.IDLE_SECONDS):
+                self.rest = await self.more()
 
     async def head(self) -> bytes:
         """The head of the next request, with the empty line that ends it."""
@@ -186,7 +176,6 @@ class Client:
         return found
 
     async def request(self, head: bytes) -> Request:
-        """The request that begins with this head."""
         check_head(head)
         parser = h11.Connection(h11.SERVER, limits.HEAD_BYTES)
         try:
@@ -196,9 +185,11 @@ class Client:
                 raise BadRequestError(400, "the head isn't one of HTTP")
             check_request(event)
             headers = joined(event.headers)
-            self.stays = event.http_version == b"1.1" and not is_last(headers)
+            # (A wish to speak another protocol from then on is passed over.)
+            wishes = map(str.strip, headers.get("connection", "").lower().split(","))
+            self.stays = event.http_version == b"1.1" and "close" not in wishes
             if parser.they_are_waiting_for_100_continue:
-                self.writer.write(CONTINUE)
+                self.writer.write(b"HTTP/1.1 100 Continue\r\n\r\n")
             async with asyncio.timeout(limits.BODY_SECONDS):
                 body = await self.body(parser, room_for(event))
         except h11.RemoteProtocolError as error:
@@ -213,7 +204,7 @@ class Client:
     async def send(self, response: Response, stays: bool, with_body: bool) -> None:
         lines = ["HTTP/1.1 %d %s" % (response.status, HTTPStatus(response.status).phrase),
                  "Date: " + formatdate(usegmt=True)]
-        if response.status not in WITHOUT_BODY:
+        if response.status not in (204, 304):
             lines += ["Content-Type: " + response.kind, "Content-Length: %d" % len(response.body)]
         lines += ["%s: %s" % header for header in response.headers]
         lines += [] if stays else ["Connection: close"]
@@ -249,7 +240,6 @@ class Server:
         self.untaken, self.is_ending = 0, False
 
     async def connected(self, reader: asyncio.StreamReader, writer: asyncio.StreamWriter) -> None:
-        """Serves one connection to its end."""
         client = Client(reader, writer)
         self.open[client] = asyncio.current_task()
         if len(self.open) > limits.CONNECTIONS and self.waiting:
@@ -327,13 +317,6 @@ class Server:
         for task in tasks:
             task.cancel()
         await asyncio.gather(*tasks, return_exceptions=True)
-
-
-def is_last(headers: dict[str, str]) -> bool:
-    """Whether the client sends no other request on the connection. A wish to speak another protocol
-    from then on is passed over."""
-    words = headers.get("connection", "").lower().split(",")
-    return "close" in map(str.strip, words)
 
 
 def joined(headers: Iterable[tuple[bytes, bytes]]) -> dict[str, str]:

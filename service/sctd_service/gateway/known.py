@@ -26,7 +26,6 @@ NO_LIST = "the hub keeps no list of imports, which says what was known on a day"
 
 
 def day_in(given: Iterable[tuple[str, Any]], pin: int | None) -> str:
-    """The day that a request names, or nothing."""
     days = [value for name, value in given if name == NAME]
     if not days:
         return ""

@@ -70,12 +70,17 @@ def one_language_of(tag: str, house: Sequence[str]) -> Language:
     code, tag = found[1].lower(), tag.lower()
     _, by_refset, digits = tag.partition(BY_REFSET)
     if by_refset:
-        return Language(code, (named_refset(digits),))
+        refset = digits.replace("-", "")
+        if not DIGITS.match(digits) or not is_concept_id(refset):
+            raise invalid("behind x-sctlang- stand the digits of a reference set's SCTID")
+        return Language(code, (refset,))
     parts = tag.split("-")
     for count in range(len(parts), 1, -1):
-        if (refset := FOLDED.get("-".join(parts[:count]))) is not None:
-            return Language(code, (refset,))
-    own = tuple(refset for refset in house if refset in refsets_of(code))
+        if dialect := FOLDED.get("-".join(parts[:count])):
+            return Language(code, (dialect,))
+    known = {refset for one, refset in DIALECTS.items() if one.startswith(code + "-")}
+    known.update(LANGUAGES.get(code, ()))
+    own = tuple(refset for refset in house if refset in known)
     return Language(code, own or LANGUAGES.get(code, ()))
 
 
@@ -86,19 +91,6 @@ def searched_in(language: Language, house: Sequence[str]) -> frozenset[str]:
     if not found or UNKNOWN in found:
         return frozenset()
     return frozenset(found.union(filter(None, (one.code for one in language.each))))
-
-
-def refsets_of(code: str) -> set[str]:
-    """All reference sets that are known to be of a language."""
-    dialects = {refset for tag, refset in DIALECTS.items() if tag.startswith(code + "-")}
-    return dialects | set(LANGUAGES.get(code, ()))
-
-
-def named_refset(digits: str) -> str:
-    refset = digits.replace("-", "")
-    if not DIGITS.match(digits) or not is_concept_id(refset):
-        raise invalid("behind x-sctlang- stand the digits of a reference set's SCTID")
-    return refset
 
 
 def tag_of(refset: str) -> str:

@@ -58,5 +58,4 @@ def time(day: str) -> Markup:
 
 
 def address(**words: str) -> str:
-    """The address of the page with these words."""
     return "?" + urlencode({name: word for name, word in words.items() if word})

@@ -5,13 +5,11 @@ import math
 import resource
 import time
 
-from prometheus_client import CONTENT_TYPE_LATEST, CollectorRegistry, Counter, Gauge, Histogram
-from prometheus_client import generate_latest
+from prometheus_client import CollectorRegistry, Counter, Gauge, Histogram, generate_latest
 
 from .hub import Reply
 from .store import View
 
-KIND = CONTENT_TYPE_LATEST
 # The bounds of the histograms, in seconds.
 BOUNDS = (0.001, 0.0025, 0.005, 0.01, 0.025, 0.05, 0.1, 0.25, 0.5, 1.0, 2.5, 5.0, 10.0, 30.0)
 
@@ -41,7 +39,6 @@ class Metrics:
         return Gauge("sctd_gateway_" + name, what, registry=self.registry)
 
     def answered(self, operation: str, status: int, seconds: float) -> None:
-        """Counts a request."""
         self.requests.labels(operation, status).inc()
         self.seconds.labels(operation).observe(seconds)
 

@@ -1,5 +1,6 @@
 """The page of one record: a concept on its day, beside it on another; and the search for one."""
 
+import json
 import re
 from typing import NamedTuple
 
@@ -7,7 +8,8 @@ from markupsafe import Markup
 
 from . import limits
 from .fhir.versions import Edition
-from .frame import RECORD, Answer, Shown, day_of, framed
+from .frame import JSON, SAFE, Shown, day_of
+from .http import Response
 from .languages import searched_in
 from .markup import address, aside, joined, tag, term, time, verdict
 from .page_record import Question, nothing_known, record
@@ -35,33 +37,26 @@ class Search(NamedTuple):
 
     def address(self, first: int) -> str:
         """That of another page of what is found."""
-        return address(
-            q=self.q, date=with_hyphens(self.day), other=self.other, first=str(first))
+        return address(q=self.q, date=with_hyphens(self.day), other=self.other, first=str(first))
 
 
-async def answer(edition: Edition, view: View, form: dict[str, str], is_pinned: bool) -> Answer:
+async def answer(edition: Edition, view: View, form: dict[str, str], is_pinned: bool) -> Shown:
     """What is found by a code or by words of a term, on the record's day."""
     q = form.get("q", "")
     date, other = (day_of(form.get(name, ""), view.latest) for name in ("date", "other"))
     if not view.latest:
-        shown = Shown("", verdict(EMPTY))
-    elif not q:
-        shown = Shown("", verdict("Type a code, or words of a term."))
-    elif not DIGITS.match(q):
-        first = place_of(form.get("first", ""))
-        search = Search(edition, q, min(date, view.latest), form.get("other", ""), first)
-        shown = await results(view, search)
-    elif is_concept_id(q):
-        shown = await record(view, Question(edition, q, date, other, is_pinned))
-    else:
-        shown = Shown(q, verdict(NO_CONCEPT))
-    return framed(RECORD, form, shown, view, is_pinned)
-
-
-def place_of(text: str) -> int:
-    if text and not PLACE.match(text):
-        raise invalid("first is how many of the concepts that were found are passed over")
-    return int(text or 0)
+        return Shown("", verdict(EMPTY))
+    if not q:
+        return Shown("", verdict("Type a code, or words of a term."))
+    if not DIGITS.match(q):
+        first = form.get("first", "")
+        if first and not PLACE.match(first):
+            raise invalid("first is how many of the concepts that were found are passed over")
+        search = Search(edition, q, min(date, view.latest), form.get("other", ""), int(first or 0))
+        return await results(view, search)
+    if is_concept_id(q):
+        return await record(view, Question(edition, q, date, other, is_pinned))
+    return Shown(q, verdict(NO_CONCEPT))
 
 
 async def results(view: View, search: Search) -> Shown:
@@ -107,14 +102,13 @@ def counted(first: int, count: int, is_last: bool) -> str:
     return "No %sconcept has a term with" % ("further " if first else "")
 
 
-async def suggestions(edition: Edition, view: View, text: str,
-                      date: str) -> list[dict[str, str | bool]]:
+async def suggest(edition: Edition, view: View, form: dict[str, str], is_pinned: bool) -> Response:
     """The first concepts that are found, as the page's script shows them."""
+    text, most = form.get("text", ""), limits.SUGGESTED_CONCEPTS
     if not SEARCHED.match(text) or not view.latest:
         raise invalid("what is looked for has 1 to %d characters" % limits.FILTER_CHARACTERS)
-    day = view.in_force(day_of(date, view.latest))
-    if not day:
-        return []
-    found = await of_house(view, edition, text, day, limits.SUGGESTED_CONCEPTS)
-    return [{"code": hit.member.code, "term": hit.term, "active": hit.member.is_active}
-            for hit in found[: limits.SUGGESTED_CONCEPTS]]
+    day = view.in_force(day_of(form.get("date", ""), view.latest))
+    found = await of_house(view, edition, text, day, most) if day else []
+    told = [{"code": hit.member.code, "term": hit.term, "active": hit.member.is_active}
+            for hit in found[:most]]
+    return Response(200, JSON, json.dumps(told).encode(), SAFE)

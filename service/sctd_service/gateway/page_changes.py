@@ -9,14 +9,14 @@ from markupsafe import Markup
 
 from . import limits
 from .fhir.versions import Edition
-from .frame import CHANGES, Answer, Shown, day_of, for_good, framed, made_of, wants_file
+from .frame import Shown, csv_of, day_of, for_good, listed, made_of, wants_file
+from .http import Response
 from .markup import address, aside, joined, tag, term, time, verdict
 from .page import EMPTY, NO_CONCEPT
 from .page_history import Names, changes, other_codes
-from .page_record import REFSETS, linked, nothing_known, status_of
+from .page_record import linked, nothing_known, status_of
 from .problems import too_costly
 from .store import AnyRow, View
-from .tables import csv_of
 from ..snomed import (
     Association, Concept, Description, Relationship, distinct, is_concept_id, with_hyphens)
 
@@ -66,22 +66,21 @@ class Changed(NamedTuple):
     changes: list[Change]
 
 
-async def answer(edition: Edition, view: View, form: dict[str, str], is_pinned: bool) -> Answer:
-    """The changes, as a page or as a file."""
+async def answer(edition: Edition, view: View, form: dict[str, str],
+                 is_pinned: bool) -> Shown | Response:
     is_file, found = wants_file(form), between(view, form)
     if isinstance(found, Shown):
-        return framed(CHANGES, form, found, view, is_pinned)
+        return found
     if not await view.versions(found.concept):
-        return framed(CHANGES, form, Shown(found.concept, verdict(
-            "The store has no concept ", tag("code", found.concept), ".")), view, is_pinned)
+        said = verdict("The store has no concept ", tag("code", found.concept), ".")
+        return Shown(found.concept, said)
     by_concept = await changed_by_concept(view, found)
     codes = sorted(by_concept, key=int)
     if is_file:
         return await as_file(view, found, await described(view, found, codes, by_concept))
     some = codes[: limits.CHANGED_CONCEPTS]
     told = await described(view, found, some, by_concept)
-    told_of = await shown(view, found, told, len(codes), is_pinned)
-    return framed(CHANGES, form, told_of, view, is_pinned)
+    return await shown(view, found, told, len(codes), is_pinned)
 
 
 def between(view: View, form: dict[str, str]) -> Between | Shown:
@@ -148,9 +147,9 @@ async def described(view: View, asked: Between, codes: Sequence[str],
 
 
 async def names_for(view: View, found: Iterable[Changed], day: str) -> Names:
-    """The names of the concepts that the changes name."""
-    rows = [[row for row in (one.before, one.row) if row] for each in found for one in each.changes]
-    return Names(await view.names(other_codes(rows), day), REFSETS)
+    every = (one for each in found for one in each.changes)
+    rows = (row for one in every for row in (one.before, one.row) if row)
+    return Names(await view.names(other_codes(rows), day))
 
 
 async def shown(view: View, asked: Between, found: Sequence[Changed], count: int,
@@ -158,9 +157,8 @@ async def shown(view: View, asked: Between, found: Sequence[Changed], count: int
     names, last = await names_for(view, found, asked.releases[1]), asked.releases[1]
     own = (await view.names([asked.concept], last))[asked.concept]
     body = await made_of(found, lambda one: row_of(one, names, asked.days[1]))
-    heads = [tag("th", text, scope="col") for text in ("Concept", "Status", "What changed")]
-    table = tag("table", tag("caption", "By code; a concept that is new was absent before"),
-                tag("thead", tag("tr", *heads)), tag("tbody", *body), class_="listed")
+    table = listed("By code; a concept that is new was absent before",
+                   ("Concept", "Status", "What changed"), body)
     return Shown("What changed at %s %s" % (own, asked.concept), joined(
         tag("h2", term(own), " ", aside(asked.concept)),
         verdict(*summary(asked, len(found), count)), *([table] if body else []),
@@ -193,11 +191,10 @@ def links(view: View, asked: Between, is_pinned: bool) -> Markup:
                tag("a", "This page for good, at pin %d" % view.pin, href=page), class_="links")
 
 
-async def as_file(view: View, asked: Between, found: Sequence[Changed]) -> Answer:
-    """A line of each changed row."""
+async def as_file(view: View, asked: Between, found: Sequence[Changed]) -> Response:
     names = await names_for(view, found, asked.releases[1])
 
-    def made() -> Answer:
+    def made() -> Response:
         rows = [
             (one.code, one.name, *one.statuses, change.kind, change.row.id, change.row.time,
              "; ".join(part.striptags() for part in change.told(names)), str(view.pin),

@@ -1,15 +1,18 @@
-"""The history of a concept on the page: what its releases changed, by day."""
+"""The history of a concept on the page: what its releases changed, by day, and since when it was in
+its reference sets."""
 
-from collections.abc import Iterable, Iterator, Mapping, Sequence
+import itertools
+from collections.abc import Iterable, Mapping
 from typing import NamedTuple
 
 from markupsafe import Markup
 
 from . import limits
-from .markup import joined, tag, term, time
+from .markup import aside, joined, tag, term, time
 from .refsets import METADATA_TAG, Columns, columns_of
-from ..snomed import (DEFINED, FULLY_SPECIFIED_NAME, IS_A, TEXT_DEFINITION,
-                      Association, Concept, Description, RefsetMember, Relationship, is_concept_id)
+from ..snomed import (
+    ASSOCIATIONS, DEFINED, FULLY_SPECIFIED_NAME, IS_A, TEXT_DEFINITION, Association, Concept,
+    Description, RefsetMember, Relationship, is_concept_id)
 from .store import AnyRow, Versions, View
 
 ARROW = " \u2192 "
@@ -18,13 +21,11 @@ NOTHING = "none"
 WHAT = {FULLY_SPECIFIED_NAME: "Name", TEXT_DEFINITION: "Text definition"}
 
 
-class Names:
-    """What codes are called: reference sets by the names of their associations, others by the
-    store."""
+class Names(NamedTuple):
+    """What codes are called in the store, and the columns of reference sets."""
 
-    def __init__(self, names: Mapping[str, str], refsets: Mapping[str, str],
-                 columns: Columns | None = None) -> None:
-        self.names, self.refsets, self.columns = names, refsets, columns or {}
+    names: Mapping[str, str] = {}
+    columns: Columns = {}
 
     def of(self, code: str) -> str:
         """A concrete value is told as it is, without the sign that it is a number."""
@@ -34,7 +35,7 @@ class Names:
         return "Parent" if code == IS_A else self.of(code).removesuffix(" (attribute)")
 
     def of_refset(self, code: str) -> str:
-        return self.refsets.get(code) or self.of_metadata(code)
+        return ASSOCIATIONS.get(code) or self.of_metadata(code)
 
     def of_metadata(self, code: str) -> str:
         return self.of(code).removesuffix(METADATA_TAG)
@@ -48,16 +49,13 @@ class Names:
             return [("", value) for value in values]
         return [(column, value or NOTHING) for column, value in zip(columns, values)]
 
-    def of_further(self, row: RefsetMember) -> str:
-        """The same as one text."""
-        return BESIDE.join(" ".join(filter(None, pair)) for pair in self.of_columns(row))
 
-
-async def history(view: View, timeline: Iterable[Versions], marks: Mapping[str, str],
-                  refsets: Mapping[str, str]) -> Markup:
+async def history(view: View, timeline: Iterable[Versions], marks: Mapping[str, str]) -> Markup:
     """The changes by day, oldest first, with the days that are marked among them."""
-    columns = await columns_of(view, counts_of(members_in(timeline)), view.latest)
-    names = Names(await view.names(other_codes(timeline), view.latest), refsets, columns)
+    rows = [row for versions in timeline for row in versions]
+    members = (row for row in rows if isinstance(row, RefsetMember))
+    columns = await columns_of(view, counts_of(members), view.latest)
+    names = Names(await view.names(other_codes(rows), view.latest), columns)
     events: dict[str, list[Markup]] = {day: [tag("em", said)] for day, said in marks.items()}
     for versions in timeline:
         before: AnyRow | None = None
@@ -70,21 +68,15 @@ async def history(view: View, timeline: Iterable[Versions], marks: Mapping[str, 
     return tag("ol", *entries, class_="timeline")
 
 
-def other_codes(timeline: Iterable[Versions]) -> Iterable[str]:
-    """The concepts that the rows about the concept name."""
-    for versions in timeline:
-        for row in versions:
-            if isinstance(row, Relationship):
-                yield from (row.type, row.target)
-            elif isinstance(row, Association):
-                yield row.target
-            elif isinstance(row, RefsetMember):
-                yield from codes_of_member(row)
-
-
-def members_in(timeline: Iterable[Versions]) -> Iterator[RefsetMember]:
-    for versions in timeline:
-        yield from (row for row in versions if isinstance(row, RefsetMember))
+def other_codes(rows: Iterable[AnyRow]) -> Iterable[str]:
+    """The concepts that the rows about a concept name."""
+    for row in rows:
+        if isinstance(row, Relationship):
+            yield from (row.type, row.target)
+        elif isinstance(row, Association):
+            yield row.target
+        elif isinstance(row, RefsetMember):
+            yield from codes_of_member(row)
 
 
 def counts_of(members: Iterable[RefsetMember]) -> dict[str, int]:
@@ -116,7 +108,8 @@ def said_by(row: AnyRow | None, names: Names) -> Said | None:
         refset = names.of_refset(row.refset)
         if not row.further:
             return Said("Reference set", row.refset, refset)
-        return Said(refset, "\t".join(row.further), names.of_further(row))
+        columns = (" ".join(filter(None, pair)) for pair in names.of_columns(row))
+        return Said(refset, "\t".join(row.further), BESIDE.join(columns))
     if isinstance(row, Association):
         what = names.of_refset(row.refset)
     else:
@@ -150,3 +143,56 @@ def concept_changes(before: AnyRow | None, row: Concept) -> list[Markup]:
         is_defined = row.definition_status == DEFINED
         found.append(joined("Now fully defined" if is_defined else "Now primitive"))
     return found
+
+
+class Membership(NamedTuple):
+    """A member that was active on a day, and the day from which it was so without a break."""
+
+    row: RefsetMember
+    since: str
+
+
+def memberships(timeline: Iterable[Versions], code: str, day: str) -> list[Membership]:
+    """Those of a concept on a day, by their reference sets."""
+    found = [since(versions, code, day) for versions in timeline]
+    return sorted(filter(None, found), key=lambda one: (int(one.row.refset), one.since, one.row))
+
+
+def since(versions: Versions, code: str, day: str) -> Membership | None:
+    """That of one member, if it was active then and about the concept."""
+    found: Membership | None = None
+    for row in versions:
+        if not isinstance(row, RefsetMember) or row.time > day:
+            break
+        if row.active != "1" or row.component != code:
+            found = None
+        elif found and found.row.refset == row.refset:
+            found = Membership(row, found.since)
+        else:
+            found = Membership(row, row.time)
+    return found
+
+
+def refset_entries(members: Iterable[Membership], names: Names) -> dict[str, Markup]:
+    """Each reference set once, with its members."""
+    found: dict[str, Markup] = {}
+    for refset, some in itertools.groupby(members, key=lambda one: one.row.refset):
+        if len(found) == limits.TOLD_REFSETS:
+            found["more"] = aside("and others")
+            break
+        told = list(some)
+        shown = [joined(" ", entry(one, names)) for one in told[: limits.TOLD_MEMBERS]]
+        if len(told) > limits.TOLD_MEMBERS:
+            shown.append(aside(" and %d more" % (len(told) - limits.TOLD_MEMBERS)))
+        key = "\n".join([refset, *("\t".join((one.since, *one.row.further)) for one in told)])
+        name = term(names.of_refset(refset))
+        found[key] = joined(name, " ", aside(refset), *shown)
+    return found
+
+
+def entry(one: Membership, names: Names) -> Markup:
+    """Since when it is a member, and what each of its columns says, by the column's name."""
+    told = [joined(*([aside(column), " "] if column else []), tag("strong", value))
+            for column, value in names.of_columns(one.row)]
+    said = [": ", Markup(BESIDE).join(told)] if any(one.row.further) else []
+    return joined("since ", time(one.since), *said)

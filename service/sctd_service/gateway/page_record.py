@@ -11,22 +11,18 @@ from .fhir.translation import MAPS
 from .fhir.versions import Edition
 from .frame import Shown, for_good
 from .markup import address, aside, joined, spoken, tag, term, time, verdict, visible
-from .page_history import NOTHING, Names, codes_of_member, counts_of, history
-from .page_members import Membership, memberships, refset_entries
-from .refsets import Columns, columns_of
+from .page_history import (
+    NOTHING, Membership, Names, codes_of_member, counts_of, history, memberships, refset_entries)
+from .refsets import columns_of
 from ..snomed import (
-    DEFINED, FULLY_SPECIFIED_NAME, IS_A, MOVED_FROM, MOVED_TO, REFERS_TO, TEXT_DEFINITION,
-    Association, Concept, Facts, Language, Relationship, display_of, distinct, is_concept_id,
-    preferred_term, reasons_of, with_hyphens)
+    ASSOCIATIONS, DEFINED, FULLY_SPECIFIED_NAME, IS_A, MOVED_TO, TEXT_DEFINITION, Association,
+    Concept, Facts, Language, Relationship, display_of, distinct, is_concept_id, preferred_term,
+    reasons_of, with_hyphens)
 from .store import Versions, View
 
-REFSETS = {refset: one.name.capitalize() for refset, one in MAPS.items()} | {
-    MOVED_FROM: "Moved from", REFERS_TO: "Refers to"}
-REFSET_ORDER = {refset: place for place, refset in enumerate(REFSETS)}
-ATTRIBUTE_TAG = " (attribute)"
+REFSET_ORDER = {refset: place for place, refset in enumerate(ASSOCIATIONS)}
 # The associations that say whose place a concept took.
 TAKEN = MAPS.keys() - {MOVED_TO}
-MORE = "more"
 MORE_STEPS = "This isn\u2019t whole: inactive concepts at its end may lead further."
 
 ONLY = Markup(
@@ -39,8 +35,7 @@ Entries = dict[str, Markup]
 
 
 class Question(NamedTuple):
-    """A record: its code, its day, the day it is compared with, and whether the address has a
-    pin."""
+    """A record: its code and day, the day it is compared with, whether the address has a pin."""
 
     edition: Edition
     code: str
@@ -59,15 +54,14 @@ class Around(NamedTuple):
 
 class Side(NamedTuple):
     """A concept on one day, of which the store may know nothing, with the names that those it is
-    told by had on that day, and what the columns of its reference sets are called."""
+    told by had on that day."""
 
     day: str
     is_known: bool
     facts: Facts | None
-    names: dict[str, str] = {}
+    names: Names = Names()
     members: list[Membership] = []
     around: Around = Around()
-    columns: Columns = {}
 
     @property
     def name(self) -> str:
@@ -84,10 +78,6 @@ class Side(NamedTuple):
         """Why the concept was retired, in codes. (An active one may have an indicator too.)"""
         is_retired = self.status == "inactive"
         return reasons_of(one.row for one in self.members) if is_retired else []
-
-    def called(self, code: str) -> str:
-        """A concept of the metadata by its name."""
-        return Names(self.names, {}).of_refset(code)
 
     @property
     def status(self) -> str:
@@ -113,25 +103,25 @@ class Side(NamedTuple):
                 for row in described if row.type not in (FULLY_SPECIFIED_NAME, TEXT_DEFINITION)},
             "Text definition": terms(TEXT_DEFINITION),
             "Why retired": {
-                reason: joined(term(self.called(reason)), " ", aside(reason))
+                reason: joined(term(self.names.of_metadata(reason)), " ", aside(reason))
                 for reason in self.reasons},
-            "Parents": {code + self.names[code]: self.link(code) for code in self.facts.parents},
+            "Parents": {
+                code + self.names.of(code): self.link(code) for code in self.facts.parents},
             "Children": self.some_of(self.around.children, self.link),
             "Attributes": self.attributes(self.facts.relationships, False),
             "Values": self.attributes(self.facts.values, True),
             "Definition": {
                 concept.definition_status: joined("Fully defined" if is_defined else "Primitive")},
-            "Module": {concept.module: joined(term(self.names[concept.module]))},
+            "Module": {concept.module: joined(term(self.names.of(concept.module)))},
             "Took the place of": self.some_of(self.around.taken, self.predecessor),
-            "Reference sets": refset_entries(self.members, Names(self.names, {}, self.columns)),
+            "Reference sets": refset_entries(self.members, self.names),
             "Concept row of": {concept.time: time(concept.time)}}
 
     def preferred(self, facts: Facts) -> Entries:
-        """What the concept is called in each language of the house."""
         found = {}
         for refset, called in facts.called.items():
             if (shown := preferred_term(called)) is not None:
-                language = aside(term(self.called(refset)))
+                language = aside(term(self.names.of_metadata(refset)))
                 found[refset + shown] = joined(term(shown), " ", language)
         return found
 
@@ -139,7 +129,7 @@ class Side(NamedTuple):
         found = {}
         for row in sorted(chosen, key=lambda row: (int(row.group), row.type)):
             if row.type != IS_A:
-                name = self.names[row.type].removesuffix(ATTRIBUTE_TAG)
+                name = self.names.of_attribute(row.type)
                 value = (tag("strong", row.target.removeprefix("#")) if have_values
                          else self.link(row.target))
                 group = aside(" group %s" % row.group) if row.group != "0" else ""
@@ -149,16 +139,16 @@ class Side(NamedTuple):
 
     def some_of(self, codes: Iterable[str], show: Callable[[str], Markup]) -> Entries:
         """Entries of concepts, of which those are shown that have been named."""
-        found = {code: show(code) if code in self.names else Markup() for code in codes}
+        found = {code: show(code) if code in self.names.names else Markup() for code in codes}
         more = sum(not shown for shown in found.values())
-        return found | ({MORE: aside("and %d more" % more)} if more else {})
+        return found | ({"more": aside("and %d more" % more)} if more else {})
 
     def predecessor(self, code: str) -> Markup:
-        said = ", ".join(REFSETS[row.refset].lower() for row in self.around.taken[code])
+        said = ", ".join(ASSOCIATIONS[row.refset].lower() for row in self.around.taken[code])
         return joined(self.link(code), " ", aside(said))
 
     def link(self, code: str) -> Markup:
-        return linked(code, self.names[code], self.day)
+        return linked(code, self.names.of(code), self.day)
 
 
 def status_of(concept: Concept | None) -> str:
@@ -206,7 +196,8 @@ async def side_of(view: View, code: str, day: str, language: Language,
         codes += codes_of_member(member.row)
     codes += told_first(own.children, other.children) + told_first(own.taken, other.taken)
     columns = await columns_of(view, counts_of(member.row for member in members), release)
-    return Side(day, True, facts, await view.names(codes, release), members, own, columns)
+    names = Names(await view.names(codes, release), columns)
+    return Side(day, True, facts, names, members, own)
 
 
 async def sides_of(view: View, question: Question, timeline: Sequence[Versions]) -> list[Side]:
@@ -240,21 +231,19 @@ async def record(view: View, question: Question) -> Shown:
             parts.append(tag("section", tag("h3", "What took its place, by ", time(side.day)),
                              await replacements(view, code, side.day)))
     marks = {now.day: "The day compared with", then.day: "The record\u2019s day"}
-    told = await history(view, timeline, marks, REFSETS)
+    told = await history(view, timeline, marks)
     parts.append(tag("section", tag("h3", "History"), told))
     parts.append(report(view, question, then, versions))
     return Shown("%s %s" % (name, code), joined(*parts))
 
 
 def heading(code: str, name: str) -> Markup:
-    """The heading of a record, which names its code."""
     shown = [term(name), " ", aside(code)] if name else ["The code ", tag("code", code)]
     return tag("h2", *shown)
 
 
 def absent(view: View, question: Question, sides: Sequence[Side],
            versions: Sequence[Concept]) -> Markup:
-    """The record of a code that isn't there on either day."""
     unknown = [nothing_known(side.day, view.days[0]) for side in sides if not side.is_known]
     known = [side.day for side in sides if side.is_known]
     said = ["The code ", tag("code", question.code), " isn\u2019t in the store by ",
@@ -286,7 +275,7 @@ def sentence(side: Side, versions: Iterable[Concept], first: str) -> Markup:
     for row in versions:
         if row.time <= side.day:
             since = "" if row.is_active else since or row.time
-    reasons = [term(side.called(reason)) for reason in side.reasons]
+    reasons = [term(side.names.of_metadata(reason)) for reason in side.reasons]
     why = [": ", reasons[0], *(joined(", ", one) for one in reasons[1:])] if reasons else []
     retired = [" (since ", time(since), *why, ")"] if since else []
     short = [", in short \u201c", term(side.short_name), "\u201d"] if side.short_name else []
@@ -360,7 +349,7 @@ class Step(NamedTuple):
 
     @property
     def how(self) -> str:
-        return REFSETS.get(self.row.refset, self.row.refset)
+        return ASSOCIATIONS.get(self.row.refset, self.row.refset)
 
     @property
     def name(self) -> str:

@@ -15,7 +15,8 @@ from markupsafe import Markup
 from . import limits
 from .fhir.outputs import USES
 from .fhir.versions import Edition
-from .frame import RECORDS, Answer, Shown, for_good, framed, made_of, wants_file
+from .frame import Shown, csv_of, for_good, listed, made_of, wants_file
+from .http import Response
 from .markup import aside, joined, spoken, tag, term, time, verdict
 from .page import EMPTY
 from .page_record import (
@@ -23,7 +24,6 @@ from .page_record import (
 from .problems import invalid, too_costly
 from .records import Record, records_of
 from .store import View
-from .tables import csv_of
 from ..snomed import Concept, Description, display_of, distinct, is_written_as, with_hyphens
 
 RIGHT, WRONG, UNKNOWN = "right", "wrong", "not judged"
@@ -60,22 +60,21 @@ class Known(NamedTuple):
     steps: dict[str, Sequence[Step]]
 
 
-async def answer(edition: Edition, view: View, form: dict[str, str], is_pinned: bool) -> Answer:
-    """The judged list, as a page or as a file."""
+async def answer(edition: Edition, view: View, form: dict[str, str],
+                 is_pinned: bool) -> Shown | Response:
     is_file, text, file = wants_file(form), form.get("list", ""), form.get("file", "")
     if text and file:
         raise invalid("paste a list or choose a file, but not both")
     if not (text or file) or not view.latest:
-        purpose = verdict(PURPOSE if view.latest else EMPTY)
-        return framed(RECORDS, form, Shown("A list of records", purpose), view, is_pinned)
+        return Shown("A list of records", verdict(PURPOSE if view.latest else EMPTY))
     if len((text or file).encode()) > limits.RECORDS_BYTES:
         raise too_costly("a list may have %d bytes: divide it" % limits.RECORDS_BYTES)
     records = await asyncio.to_thread(records_of, text or file)
     found = await judged(view, records)
     if is_file:
         return await asyncio.to_thread(as_file, edition, view, found)
-    shown = await page_of(view, found, is_pinned)
-    return framed(RECORDS, {**form, "list": text or file}, shown, view, is_pinned)
+    form["list"] = text or file  # The form keeps it.
+    return await page_of(view, found, is_pinned)
 
 
 async def judged(view: View, records: Sequence[Record]) -> list[Judged]:
@@ -108,7 +107,6 @@ async def known_of(view: View, records: Iterable[Record]) -> Known:
 
 
 def judgement(view: View, known: Known, record: Record) -> Judged:
-    """What is said of one record."""
     if not record.is_read:
         return Judged(record, said=[joined(record.problem)])
     release = view.in_force(record.day)
@@ -144,12 +142,8 @@ def absent(known: Known, record: Record) -> Markup:
 
 async def page_of(view: View, found: Sequence[Judged], is_pinned: bool) -> Shown:
     body = await made_of(found, lambda one: row_of(one, view.latest))
-    heads = [tag("th", text, scope="col") for text in (
-        "Line", "Record", "Verdict", "On its day", "Now")]
-    caption = "Pin %d; %s; read on %s" % (
-        view.pin, view.receipt, datetime.date.today().isoformat())
-    table = tag("table", tag("caption", caption), tag("thead", tag("tr", *heads)),
-                tag("tbody", *body), class_="listed")
+    caption = "Pin %d; %s; read on %s" % (view.pin, view.receipt, datetime.date.today().isoformat())
+    table = listed(caption, ("Line", "Record", "Verdict", "On its day", "Now"), body)
     again = [] if is_pinned else [
         tag("p", tag("a", "Lists as of pin %d, for good" % view.pin,
                      href=for_good(view, "records")), class_="links")]
@@ -168,13 +162,14 @@ def row_of(one: Judged, latest: str) -> Markup:
     record = one.record
     given = [tag("code", record.code), " ", spoken(one.day) if one.day else record.written]
     shown = [tag("div", term(record.term))] if record.term else []
+    now = [tag("div", status(one.now))] if one.now else []
+    steps = [replacement(step, record.code, latest) for step in one.steps]
     return tag(
         "tr", tag("th", str(record.line), scope="row"),
         tag("td", *given, *shown, data_head="Record"),
-        tag("td", tag("span", one.verdict, class_=one.verdict.replace(" ", "-")),
-            data_head="Verdict"),
+        tag("td", status(one.verdict), data_head="Verdict"),
         tag("td", *on_its_day(one), data_head="On its day"),
-        tag("td", *at_present(one, latest), data_head="Now"))
+        tag("td", *now, *[tag("ul", *steps)] * bool(steps), data_head="Now"))
 
 
 def on_its_day(one: Judged) -> list[Markup]:
@@ -185,28 +180,18 @@ def on_its_day(one: Judged) -> list[Markup]:
     return [tag("div", part) for part in (*told, *one.said)]
 
 
-def at_present(one: Judged, latest: str) -> list[Markup]:
-    told = [tag("div", status(one.now))] if one.now else []
-    steps = [replacement(step, one.record.code, latest) for step in one.steps]
-    return told + ([tag("ul", *steps)] if steps else [])
-
-
 def status(text: str) -> Markup:
     return tag("span", text, class_=text.replace(" ", "-"))
 
 
-def as_file(edition: Edition, view: View, found: Sequence[Judged]) -> Answer:
-    """A line of each record."""
+def as_file(edition: Edition, view: View, found: Sequence[Judged]) -> Response:
     rows = [
         (str(one.record.line), one.record.code, with_hyphens(one.day) if one.day else
          one.record.written, one.record.term, one.verdict, one.then, one.name,
-         "; ".join(one.uses), one.now, "; ".join(map(replaced, one.steps)),
+         "; ".join(one.uses), one.now,
+         "; ".join("%s %s |%s|" % (step.how, step.row.target, step.name) for step in one.steps),
          " ".join(part.striptags() for part in one.said),
          edition.version(view.in_force(one.day)) if view.in_force(one.day) else "", str(view.pin),
          view.receipt)
         for one in found]
     return csv_of("records-at-pin-%d" % view.pin, COLUMNS, rows)
-
-
-def replaced(step: Step) -> str:
-    return "%s %s |%s|" % (step.how, step.row.target, step.name)

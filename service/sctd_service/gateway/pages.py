@@ -2,21 +2,21 @@
 
 import asyncio
 import contextlib
-import json
 import math
 from collections.abc import Awaitable, Callable, Mapping, Sequence
 from typing import NamedTuple
 
 from . import limits, page, page_changes, page_records
 from .fhir.versions import Edition
-from .frame import CHANGES, JSON, RECORD, RECORDS, WORDS, Answer, Shown, framed
-from .http import Request
+from .frame import CHANGES, RECORD, RECORDS, WORDS, Shown, framed
+from .http import Request, Response
 from .markup import tag
 from .posted import pairs_of, pairs_posted
 from .problems import Problem, invalid
 from .store import View
 
-Answering = Callable[[Edition, View, dict[str, str], bool], Awaitable[Answer]]
+# What a page shows, or else a file.
+Answering = Callable[[Edition, View, dict[str, str], bool], Awaitable[Shown | Response]]
 
 
 class Page(NamedTuple):
@@ -30,16 +30,9 @@ class Page(NamedTuple):
     questions: float = math.inf
 
 
-async def suggest(edition: Edition, view: View, form: dict[str, str], is_pinned: bool) -> Answer:
-    """Terms for the page's script."""
-    found = await page.suggestions(edition, view, form.get("text", ""), form.get("date", ""))
-    return Answer(json.dumps(found).encode(), JSON)
-
-
-SUGGEST = "/suggest"
 PAGES: Mapping[str, Page] = {
     RECORD: Page(page.answer, WORDS[RECORD]),
-    SUGGEST: Page(suggest, ("text", "date"), is_walk=False),
+    "/suggest": Page(page.suggest, ("text", "date"), is_walk=False),
     CHANGES: Page(page_changes.answer, WORDS[CHANGES], questions=limits.CHANGES_QUESTIONS),
     RECORDS: Page(page_records.answer, ("known",), WORDS[RECORDS],
                   questions=limits.RECORDS_QUESTIONS),
@@ -47,7 +40,6 @@ PAGES: Mapping[str, Page] = {
 
 
 async def words_of(path: str, request: Request) -> dict[str, str]:
-    """The words of a page, those that are posted to it too."""
     is_post = request.method == "POST"
     known = PAGES[path].posted if is_post else PAGES[path].words
     pairs = pairs_of(request.target.partition("?")[2])
@@ -61,12 +53,13 @@ async def words_of(path: str, request: Request) -> dict[str, str]:
 
 
 async def answered(path: str, edition: Edition, view: View, words: dict[str, str],
-                   is_pinned: bool) -> Answer:
+                   is_pinned: bool) -> Response:
     view.session.most = PAGES[path].questions
-    return await PAGES[path].answer(edition, view, words, is_pinned)
+    found = await PAGES[path].answer(edition, view, words, is_pinned)
+    return framed(path, words, found, view, is_pinned) if isinstance(found, Shown) else found
 
 
-async def refused(path: str, request: Request, text: str, is_pinned: bool) -> Answer:
+async def refused(path: str, request: Request, text: str, is_pinned: bool) -> Response:
     """A refusal, which keeps what was filled in as far as that can be read."""
     content = tag("p", "Refused: ", text, class_="verdict", role="alert")
     pairs = list[tuple[str, str]]()

@@ -36,8 +36,6 @@ ENTRY_BYTES, LINE_BYTES, LETTER_BYTES = 400, 80, 2
 
 
 class Member(NamedTuple):
-    """A concept of a value set."""
-
     code: str
     is_active: bool
 
@@ -222,8 +220,6 @@ class Pool:
 
 
 class Session:
-    """The store as its first `pin` imports left it."""
-
     def __init__(self, pool: Pool, connection: Connection, pin: int) -> None:
         self.pool, self.connection, self.pin = pool, connection, pin
         # How many lines were asked, and how many may be.
@@ -236,9 +232,15 @@ class Session:
         """Learns what the pin shows. Where that is remembered nothing is asked."""
         lines = ["DATES", *(["RECEIPT %d" % self.pin] if self.pin else [])]
         dates, *receipts = await self.ask(lines)
-        self.days = days_of(dates)
+        days = [DATE.match(line) for line in dates[:-1]]
+        if not all(days) or not dates[-1].startswith("END "):
+            raise HubGone("the hub says what isn't a day", True)
+        self.days = [day[1] for day in days if day]
         if receipts:
-            self.receipt = "RECEIPT %d: %s" % (self.pin, receipt_of(receipts[0]))
+            receipt = receipts[0][-1]
+            if not RECEIPT.match(receipt):
+                raise HubGone("the hub says what isn't a receipt", True)
+            self.receipt = "RECEIPT %d: %s" % (self.pin, receipt)
 
     async def troubles(self) -> list[str]:
         """What the hub says is wrong with the store. It has to answer for that."""
@@ -247,14 +249,10 @@ class Session:
             raise HubGone("the hub says what isn't the store's state", True)
         return found[1].split()
 
-    def remembered(self, lines: Sequence[str]) -> list[Reply | None]:
-        """The reply to each line that is remembered."""
-        remembers = self.pool.is_of_this_hub(self.connection)
-        return [self.pool.memory.get((self.pin, line)) if remembers else None for line in lines]
-
     async def ask(self, lines: Sequence[str], keep: bool = True) -> list[Reply]:
         """The reply to each line, those that are remembered without asking."""
-        known = self.remembered(lines)
+        remembers, memory = self.pool.is_of_this_hub(self.connection), self.pool.memory
+        known = [memory.get((self.pin, line)) if remembers else None for line in lines]
         missing = [line for line, reply in zip(lines, known) if reply is None]
         self.asked += len(lines)
         if self.asked > self.most:
@@ -279,7 +277,6 @@ class Session:
 
     async def recalled(self, sets: Recent[Kept], day: str, code: str,
                        make: Callable[[], Awaitable[Kept]]) -> Kept:
-        """A set that is remembered, or else is made and remembered."""
         found = self.remembered_set(sets, day, code)
         if found is None:
             found = await make()
@@ -290,16 +287,3 @@ class Session:
 def size_of(reply: Reply) -> int:
     """Roughly what Python takes for a reply that is remembered."""
     return ENTRY_BYTES + sum(LINE_BYTES + LETTER_BYTES * len(line) for line in reply)
-
-
-def days_of(reply: Reply) -> list[str]:
-    found = [DATE.match(line) for line in reply[:-1]]
-    if not all(found) or not reply[-1].startswith("END "):
-        raise HubGone("the hub says what isn't a day", True)
-    return [day[1] for day in found if day]
-
-
-def receipt_of(reply: Reply) -> str:
-    if not RECEIPT.match(reply[-1]):
-        raise HubGone("the hub says what isn't a receipt", True)
-    return reply[-1]

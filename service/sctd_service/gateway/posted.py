@@ -11,14 +11,11 @@ from .problems import Problem, invalid
 Pair = tuple[str, str]
 FORM, MULTIPART = "application/x-www-form-urlencoded", "multipart/form-data"
 TEXTS = ("text/csv", "text/plain", "text/tab-separated-values")
-# The field that a list is which is posted by itself.
-LIST = "list"
 PARAMETER = re.compile(r';[ \t]*([\w-]+)="?([^";\s]{1,70})"?', re.ASCII)
 # The name of a field of a form in parts.
 NAME = re.compile(rb'^content-disposition:[ \t]*form-data;(?:[^\r]*;)?[ \t]*name="([^"\r\n]*)"',
                   re.I | re.M)
 END = b"\r\n"
-HEAD_END = END * 2
 
 
 def pairs_of(words: str) -> list[Pair]:
@@ -40,7 +37,7 @@ def pairs_posted(request: Request) -> list[Pair]:
     if kind == FORM:
         return pairs_of(text_of(request.body))
     if kind in TEXTS:
-        return [(LIST, text_of(request.body))]
+        return [("list", text_of(request.body))]
     return list(parts_of(request.body, named.get("boundary", "")))
 
 
@@ -57,7 +54,7 @@ def parts_of(body: bytes, boundary: str) -> Iterator[Pair]:
     if not boundary or before or not parts or not parts.pop().startswith(b"--"):
         raise invalid("the form isn't whole")
     for part in parts:
-        head, between, value = part.partition(HEAD_END)
+        head, between, value = part.partition(END * 2)
         found = NAME.search(head)
         if not between or not found:
             raise invalid("a part of the form has no name")

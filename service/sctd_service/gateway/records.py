@@ -40,7 +40,9 @@ def records_of(text: str) -> list[Record]:
     lines = [(number, line) for number, line in enumerate(LINE_END.split(text), 1) if line.strip()]
     if not lines:
         return []
-    delimiter = delimiter_of(lines[0][1])
+    # What separates the columns: the first of these that stands in the list's first line.
+    found = [letter for letter in lines[0][1] if letter in DELIMITERS]
+    delimiter = "\t" if "\t" in found else found[0] if found else ","
     places = places_of(fields_of(lines[0][1], delimiter))
     if places:
         lines.pop(0)
@@ -48,12 +50,6 @@ def records_of(text: str) -> list[Record]:
         raise too_costly("a list may have %d records, and this one has %d: divide it" % (
             limits.RECORDS, len(lines)))
     return [record_of(number, line, delimiter, places or PLACES) for number, line in lines]
-
-
-def delimiter_of(line: str) -> str:
-    """What separates the columns: the first of these that stands in the list's first line."""
-    found = [letter for letter in line if letter in DELIMITERS]
-    return "\t" if "\t" in found else found[0] if found else ","
 
 
 def places_of(fields: Sequence[str]) -> Sequence[str]:
@@ -87,8 +83,7 @@ def record_of(number: int, line: str, delimiter: str, places: Sequence[str]) -> 
     fields = fields_of(line.rstrip(delimiter + " "), delimiter, most)
     if not fields:
         return unread(number, line, "The line\u2019s quotation marks aren\u2019t those of CSV.")
-    said = dict.fromkeys(PLACES, "") | {
-        name: field for name, field in zip(places, fields) if name}
+    said = dict.fromkeys(PLACES, "") | {name: field for name, field in zip(places, fields) if name}
     found = DATE.match(said[DAY])
     day = "".join(found.group(1, 3, 4)) if found else ""
     problem = " ".join(problems_of(said[CODE], said[DAY], day))
@@ -100,7 +95,6 @@ def unread(number: int, line: str, problem: str) -> Record:
 
 
 def problems_of(code: str, written: str, day: str) -> Iterator[str]:
-    """Why a record can't be judged."""
     if not code:
         yield "The line has no code."
     elif not SCTID.match(code):

@@ -9,7 +9,7 @@ from .problems import too_costly
 from ..snomed import (
     ASSOCIATIONS, REFERENCE_SET, REFSET_DESCRIPTOR, Association, RefsetMember, distinct,
     is_concept_id, is_id_of_concept)
-from .store import FIRST, View
+from .store import View
 
 # The reference set of only its active concepts, among those that are remembered.
 ACTIVE = "%s active"
@@ -37,18 +37,14 @@ async def codes_of(view: View, refset: str, day: str) -> Codes:
 
 async def components_of(view: View, refset: str, day: str) -> list[str]:
     """What its active members refer to."""
-    found: list[str] = []
-    count, after = 0, FIRST
-    while True:
-        page = await view.values(refset, day, after, keep=False)
+    found, count = list[str](), 0
+    async for page in view.values(refset, day):
         found += distinct(row.component for row in page)
         count += len(page)
         if count > limits.REFSET_MEMBERS:
             raise too_costly("the reference set %s has more than %d members: ask with a filter"
                              % (refset, limits.REFSET_MEMBERS))
-        if len(page) < limits.QUESTION_ROWS:
-            return found
-        after = found[-1]
+    return found
 
 
 async def active_codes_of(view: View, refset: str, day: str) -> Codes:
@@ -75,8 +71,7 @@ async def those_in(view: View, refset: str, codes: Sequence[str], day: str) -> s
         told = await view.associations(codes, day)
     else:
         told = await view.members_about(codes, day)
-    return {
-        code for code, rows in zip(codes, told) if any(row.refset == refset for row in rows)}
+    return {code for code, rows in zip(codes, told) if any(row.refset == refset for row in rows)}
 
 
 async def was_kept(view: View, refset: str) -> bool:
@@ -93,18 +88,14 @@ async def associated(view: View, day: str) -> dict[str, list[str]]:
     known = {one: session.remembered_set(session.pool.refsets, day, one) for one in ASSOCIATIONS}
     if None not in known.values():
         return {refset: [*codes] for refset, codes in known.items() if codes}
-    count, after = 0, FIRST
-    while True:
-        page = await view.page_of_associations(day, after)
+    count = 0
+    async for page in view.every_association(day):
         for row in page:
             if row.active == "1" and is_id_of_concept(row.source):
                 found.setdefault(row.refset, set()).add(row.source)
         count += len(page)
         if count > limits.ASSOCIATIONS:
             raise too_costly("there are more than %d associations" % limits.ASSOCIATIONS)
-        if len(page) < limits.QUESTION_ROWS:
-            break
-        after = page[-1].id
     for refset in ASSOCIATIONS:
         codes = tuple(sorted(found.get(refset, ()), key=int))
         session.remember_set(session.pool.refsets, day, refset, codes)
@@ -134,8 +125,7 @@ async def which_of(view: View, codes: Sequence[str], day: str) -> set[str]:
 
 
 async def columns_of(view: View, counts: Mapping[str, int], day: str) -> Columns:
-    """What the columns of reference sets are called, as the store describes them on a day: of each
-    that has so many."""
+    """What the columns of reference sets are called on a day, of each that has so many."""
     described = [described_by(told) for told in await view.members_about([*counts], day)]
     names = await view.names((code for codes in described for code in codes), day)
     found = {

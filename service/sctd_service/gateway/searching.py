@@ -25,12 +25,8 @@ class Hits(NamedTuple):
     are_all: bool
 
 
-async def every(codes: list[str]) -> list[str]:
-    return codes
-
-
 async def searched(view: View, text: str, day: str, languages: Collection[str], most: int,
-                   among: Among = every) -> Hits:
+                   among: Among | None = None) -> Hits:
     """The concepts with a term of one of the languages, or of any if there are none, that has the
     words of the text: active ones first, and then those with the shortest terms. They are all, or
     else at least `most`."""
@@ -41,7 +37,7 @@ async def searched(view: View, text: str, day: str, languages: Collection[str], 
             if row.concept not in told and (not languages or row.language in languages):
                 terms.setdefault(row.concept, row.term)
         told.update(terms)
-        chosen = set(await among([*terms]))
+        chosen = set(await among([*terms]) if among else terms)
         for member in await view.members([code for code in terms if code in chosen], day):
             kept = active if member.is_active else inactive
             kept.append(Hit(member, terms[member.code]))

@@ -5,7 +5,8 @@ import asyncio
 import bisect
 import itertools
 import re
-from collections.abc import AsyncIterator, Iterable, Sequence
+from collections.abc import AsyncIterator, Callable, Iterable, Sequence
+from functools import partial
 from typing import NamedTuple, TypeVar
 
 from . import limits
@@ -17,6 +18,7 @@ from ..snomed import (
     distinct, display_of, has_name_in, is_concept_id, preferred_term, with_hyphens)
 
 Row = TypeVar("Row", Concept, Description, Relationship, Association)
+Told = TypeVar("Told")
 # A row of any kind, and all versions of one component, oldest first.
 AnyRow = Concept | Description | Relationship | Association | RefsetMember
 # The kinds of rows that are about a concept.
@@ -31,14 +33,14 @@ NO_WORD = "what is looked for has no letter and no digit"
 MEMBER_ID = re.compile(r"[0-9a-f]{8}(-[0-9a-f]{4}){3}-[0-9a-f]{12}\Z", re.ASCII)
 # The identifier of no member.
 NO_MEMBER_ID = "00000000-0000-0000-0000-000000000000"
-# The columns that each member has, and the one that says of which module a row of any kind is.
-MEMBER_COLUMNS, MODULE = 6, 3
+# The columns that each member has, the one that says of which module a row of any kind is, and the
+# one that has what a member refers to.
+MEMBER_COLUMNS, MODULE, REFERENCED = 6, 3, 5
 # Of the languages of no house.
 ANY = Language()
 
 
 def rows(kind: type[Row], reply: Reply) -> list[Row]:
-    """The rows of a reply."""
     try:
         return [kind(*columns) for columns in columns_of(reply)]
     except TypeError:
@@ -63,7 +65,6 @@ def member_of(columns: list[str]) -> RefsetMember:
 
 
 def members_of(reply: Reply) -> list[RefsetMember]:
-    """The members of a reply."""
     return [member_of(columns) for columns in columns_of(reply)]
 
 
@@ -128,8 +129,26 @@ class View:
         return await self.session.ask(lines, keep)
 
     async def told(self, line: str, keep: bool = True) -> Reply:
-        """The reply to one line."""
         return (await self.ask([line], keep))[0]
+
+    async def pages(self, question: str, place: int = 0,
+                    keep: bool = False) -> AsyncIterator[Reply]:
+        """The replies to a question for some rows at a time, which goes on behind what stands at a
+        place of the last row."""
+        after = FIRST
+        while after:
+            line = "%s %s %d" % (question, after, limits.QUESTION_ROWS)
+            reply = await self.told(line, keep)
+            yield reply
+            # (The last line is no row.)
+            is_full = len(reply) > limits.QUESTION_ROWS
+            after = columns_of(reply[-2:])[0][place] if is_full else ""
+
+    async def each(self, question: str, codes: Iterable[str], day: str,
+                   read: Callable[[Reply], Told]) -> list[Told]:
+        """What the store says on a day of each of the codes."""
+        replies = await self.ask(["%s %s %s" % (question, code, day) for code in codes])
+        return [read(reply) for reply in replies]
 
     async def facts(self, code: str, day: str, language: Language = ANY,
                     with_members: bool = False) -> Facts | None:
@@ -164,11 +183,9 @@ class View:
         return is_concept_id(code) and (await self.concepts([code], day))[0] is not None
 
     async def descriptions(self, codes: Sequence[str], day: str) -> list[list[Description]]:
-        replies = await self.ask(["ABOUT D %s %s" % (code, day) for code in codes])
-        return [rows(Description, reply) for reply in replies]
+        return await self.each("ABOUT D", codes, day, lambda told: rows(Description, told))
 
     async def called(self, codes: Sequence[str], day: str, refset: str) -> list[list[Called]]:
-        """By what each of the concepts is called in a language."""
         replies = await self.ask([called(code, day, refset) for code in codes])
         return [called_of(reply) for reply in replies]
 
@@ -196,64 +213,51 @@ class View:
 
     async def associations(self, codes: Sequence[str], day: str) -> list[list[Association]]:
         """What took the place of each of the concepts."""
-        replies = await self.ask(["REPLACED %s %s" % (code, day) for code in codes])
-        return [rows(Association, reply) for reply in replies]
+        return await self.each("REPLACED", codes, day, lambda told: rows(Association, told))
 
     async def replaced_by(self, codes: Sequence[str], day: str) -> list[list[Association]]:
         """Whose place each of the concepts took."""
-        replies = await self.ask(["REPLACES %s %s" % (code, day) for code in codes])
-        return [rows(Association, reply) for reply in replies]
+        return await self.each("REPLACES", codes, day, lambda told: rows(Association, told))
 
-    async def page_of_associations(self, day: str, after: str) -> list[Association]:
-        """Members of association reference sets by their ids, inactive ones too."""
-        line = "PAGE A %s %s %d" % (day, after, limits.QUESTION_ROWS)
-        return rows(Association, (await self.ask([line], keep=False))[0])
+    async def every_association(self, day: str) -> AsyncIterator[list[Association]]:
+        """Page by page the members of association reference sets, inactive ones too."""
+        async for reply in self.pages("PAGE A " + day):
+            yield rows(Association, reply)
 
     async def members_about(self, codes: Sequence[str], day: str) -> list[list[RefsetMember]]:
         """The active members of all reference sets that refer to each of the components."""
-        replies = await self.ask(["ABOUT M %s %s" % (code, day) for code in codes])
-        return [members_of(reply) for reply in replies]
+        return await self.each("ABOUT M", codes, day, members_of)
 
     async def delta(self, kind: str, first: str, last: str) -> AsyncIterator[Sequence[AnyRow]]:
         """Page by page the rows of a kind on the last day that changed after the first."""
-        after = FIRST
-        while after:
-            line = "DELTA %s %s %s %s %d" % (kind, first, last, after, limits.QUESTION_ROWS)
-            page = rows_about(kind, await self.told(line, keep=False))
-            yield page
-            after = page[-1].id if len(page) == limits.QUESTION_ROWS else ""
+        async for reply in self.pages("DELTA %s %s %s" % (kind, first, last)):
+            yield READERS[kind](reply)
 
-    async def rows_on(self, components: Sequence[tuple[str, str]],
-                      day: str) -> list[AnyRow | None]:
-        """The row on a day of each component, which is named by its kind and its id, if it had
-        one."""
+    async def rows_on(self, components: Sequence[tuple[str, str]], day: str) -> list[AnyRow | None]:
+        """The row on a day, if it had one, of each component: of its kind and its id."""
         found: list[AnyRow | None] = []
         for start in range(0, len(components), limits.HUB_BATCH):
             some = components[start : start + limits.HUB_BATCH]
             told = await self.ask(["GET %s %s %s" % (*one, day) for one in some], keep=False)
-            found += [next(iter(rows_about(kind, reply)), None)
+            found += [next(iter(READERS[kind](reply)), None)
                       for (kind, _), reply in zip(some, told)]
         return found
 
-    async def values(self, refset: str, day: str, after: str,
-                     keep: bool = True) -> list[RefsetMember]:
-        """Active members of a reference set by what they refer to, from the first behind `after`
-        on: with the last of so many all that refer to the same."""
-        line = "VALUES %s %s %s %d" % (refset, day, after, limits.QUESTION_ROWS)
-        return members_of(await self.told(line, keep))
+    async def values(self, refset: str, day: str) -> AsyncIterator[list[RefsetMember]]:
+        """Page by page the active members of a reference set by what they refer to: with the last
+        of a page all that refer to the same."""
+        async for reply in self.pages("VALUES %s %s" % (refset, day), REFERENCED):
+            yield members_of(reply)
 
     async def have_values(self, refsets: Sequence[str], day: str) -> list[str]:
-        """Those of the reference sets that have an active member."""
         told = await self.ask(["VALUES %s %s %s 1" % (one, day, FIRST) for one in refsets])
         return [refset for refset, reply in zip(refsets, told) if members_of(reply)]
 
     async def was_kept(self, refset: str) -> bool:
-        """Whether the store has any member of a reference set, of whichever day."""
         told = await self.told("MEMBERS %s %s %s 1" % (refset, self.latest, FIRST))
         return bool(members_of(told))
 
     async def keeps_members(self) -> bool:
-        """Whether the store's layout keeps members of reference sets."""
         try:
             await self.told("HISTORY M %s" % NO_MEMBER_ID)
         except HubRefused as refused:
@@ -263,7 +267,6 @@ class View:
         return True
 
     async def has_members(self) -> bool:
-        """Whether the store has a member of any reference set."""
         return bool(members_of(await self.told("PAGE M %s %s 1" % (self.latest, FIRST))))
 
     async def has_module(self, module: str) -> bool:
@@ -285,8 +288,7 @@ class View:
         return ids(await self.told("CHILDREN %s %s" % (code, day)))
 
     async def ancestors(self, codes: Sequence[str], day: str) -> list[list[str]]:
-        replies = await self.ask(["ANCESTORS %s %s" % (code, day) for code in codes])
-        return [ids(reply) for reply in replies]
+        return await self.each("ANCESTORS", codes, day, ids)
 
     async def descendants(self, code: str, day: str) -> list[str]:
         return ids(await self.told("DESCENDANTS %s %s" % (code, day), keep=False))
@@ -325,19 +327,12 @@ class View:
         return [Member(row.id, row.is_active) for row in found if row]
 
     async def first_concepts(self, day: str, count: int, active_only: bool) -> list[Member]:
-        """The first so many concepts by id."""
         if count > limits.WALK_CONCEPTS:
             raise too_costly("of all concepts the first %d can be listed" % limits.WALK_CONCEPTS)
-        found: list[Member] = []
-        after = FIRST
-        while len(found) < count:
-            line = "PAGE C %s %s %d" % (day, after, limits.QUESTION_ROWS)
-            page = rows(Concept, await self.told(line))
-            found += [
-                Member(row.id, row.is_active) for row in page if row.is_active or not active_only]
-            if len(page) < limits.QUESTION_ROWS:
-                break
-            after = page[-1].id
+        found, pages = list[Member](), self.pages("PAGE C " + day, keep=True)
+        while len(found) < count and (reply := await anext(pages, None)):
+            found += [Member(row.id, row.is_active) for row in rows(Concept, reply)
+                      if row.is_active or not active_only]
         return found[:count]
 
     async def is_within(self, code: str, top: str, day: str) -> bool:
@@ -372,9 +367,8 @@ class View:
         """What was ever said of the concept and about it: all versions of each component, those
         that were said first before others of their kind."""
         told = await self.ask(["TIMELINE %s %s" % (kind, code) for kind in ABOUT], keep=False)
-        about = [versions for kind, reply in zip(ABOUT, told)
-                 for versions in sorted(by_component(rows_about(kind, reply)), key=first_said)]
-        return [await self.versions(code), *about]
+        about = (by_component(READERS[kind](reply)) for kind, reply in zip(ABOUT, told))
+        return [await self.versions(code), *itertools.chain.from_iterable(about)]
 
 
 def called(code: str, day: str, refset: str) -> str:
@@ -385,22 +379,14 @@ def ids(reply: Reply) -> list[str]:
     return [line.removeprefix("ID ") for line in reply[:-1]]
 
 
-def rows_about(kind: str, reply: Reply) -> Sequence[AnyRow]:
-    if kind == "C":
-        return rows(Concept, reply)
-    if kind == "D":
-        return rows(Description, reply)
-    if kind == "A":
-        return rows(Association, reply)
-    if kind == "M":
-        return members_of(reply)
-    return rows(Relationship, reply)
+# How a reply with rows of a kind is read.
+READERS: dict[str, Callable[[Reply], Sequence[AnyRow]]] = {
+    "C": partial(rows, Concept), "D": partial(rows, Description), "R": partial(rows, Relationship),
+    "V": partial(rows, Relationship), "A": partial(rows, Association), "M": members_of}
 
 
 def by_component(found: Sequence[AnyRow]) -> list[Versions]:
-    """The rows of each component, which stand together."""
-    return [list(versions) for _, versions in itertools.groupby(found, key=lambda row: row.id)]
-
-
-def first_said(versions: Versions) -> str:
-    return min(row.time for row in versions if row.active == "1")
+    """The rows of each component, which stand together: first what was said first."""
+    every = [list(versions) for _, versions in itertools.groupby(found, key=lambda row: row.id)]
+    return sorted(
+        every, key=lambda versions: min(row.time for row in versions if row.active == "1"))

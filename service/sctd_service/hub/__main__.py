@@ -66,7 +66,7 @@ import resource
 import signal
 import socket
 import sys
-from typing import Any, Optional
+from typing import Any
 
 from .. import settings, sockets
 from ..logs import log, tell
@@ -82,7 +82,6 @@ MOST_A_USER = 250
 
 
 def tell_systemd() -> None:
-    """That the hub is ready, where systemd wants to know."""
     name = os.environ.get("NOTIFY_SOCKET")
     if name:
         with socket.socket(socket.AF_UNIX, socket.SOCK_DGRAM) as telling:
@@ -103,7 +102,7 @@ def is_clear(path: str) -> bool:
 class Listener:
     """A socket of the hub's, with its rights: its owner's alone, or also a group's."""
 
-    def __init__(self, path: str, may_change: bool, group: Optional[int] = None) -> None:
+    def __init__(self, path: str, may_change: bool, group: int | None = None) -> None:
         self.path, self.may_change = path, may_change
         self.socket = socket.socket(socket.AF_UNIX)
         before = os.umask(0o177)
@@ -116,13 +115,8 @@ class Listener:
             os.chmod(path, 0o660)
         self.identity = sockets.identity_of(path)
 
-    def remove(self) -> None:
-        """Removes the socket's name, if it is still that of this socket."""
-        sockets.remove(self.path, self.identity)
-
 
 async def serve_clients(hub: Hub, listeners: list[Listener]) -> int:
-    """Serves all clients, and answers the status to end with."""
     for number in (signal.SIGTERM, signal.SIGINT):
         asyncio.get_running_loop().add_signal_handler(number, hub.end, 0)
     servers = [
@@ -141,7 +135,7 @@ async def serve_clients(hub: Hub, listeners: list[Listener]) -> int:
         tell("hub: the program has ended")
     for server, listener in zip(servers, listeners):
         server.close()
-        listener.remove()
+        sockets.remove(listener.path, listener.identity)
     await hub.stop()
     for duty in duties:
         duty.cancel()

@@ -7,8 +7,8 @@ import socket
 import struct
 import time
 from collections import Counter
-from collections.abc import Coroutine, Sequence
-from typing import Optional, cast
+from collections.abc import Callable, Coroutine, Sequence
+from typing import cast
 
 from ..logs import log, tell
 from .checking import without_notes
@@ -43,15 +43,13 @@ PEER = struct.Struct("3i")
 
 
 class Client(asyncio.Protocol):
-    """A connection, and its session."""
-
     transport: asyncio.Transport
     goes_alone = False
 
     def __init__(self, hub: "Hub", may_change: bool) -> None:
         self.hub, self.may_change, self.inputs = hub, may_change, hub.program.inputs
         self.session, self.user, self.lines = 0, "nobody", Lines(LINE_LIMIT, may_change)
-        self.pin: Optional[bytes] = None
+        self.pin: bytes | None = None
         # How many lines are on their way, and what they were answered that isn't sent yet.
         self.flying, self.replies = 0, list[bytes]()
         # Whether it waits for a turn, has a line that the hub carries out, has replies to read.
@@ -135,24 +133,20 @@ class Client(asyncio.Protocol):
         while lines and lines[0][0] is QUESTION and len(found) < most:
             line = lines.popleft()[1]
             if not self.asks_ahead and (date := date_after(self.hub.today, line)):
-                self.note_date(date)
+                # (The same question may be answered otherwise later.)
+                self.asks_ahead = True
+                log("%s asks about %s, which is yet to come" % (self.user, date.decode()))
             found.append(before + line + b"\n")
         self.flying += len(found)
         return found
-
-    def note_date(self, date: bytes) -> None:
-        """Logs that it asks about a day to come: the same question may be answered otherwise later.
-        """
-        self.asks_ahead = True
-        log("%s asks about %s, which is yet to come" % (self.user, date.decode()))
 
     def answered(self, line: bytes, reply: bytes) -> bool:
         """Takes the reply; whether it is that to the last line on its way."""
         self.flying -= 1
         if reply.startswith(b"OK"):
             self.pin = pin_after(line, reply, self.pin)
-            if words := self.hub.troubles():
-                reply = with_words(line, reply, words)
+            if (words := self.hub.troubles()) and without_cr(line[:-1]).endswith(b" STATUS"):
+                reply = b"%s%s\n" % (reply[:-1], words)
         self.replies.append(reply)
         return self.flying == 0
 
@@ -188,7 +182,7 @@ class Client(asyncio.Protocol):
         if not self.is_gone:
             self.go_on()
 
-    def connection_lost(self, why: Optional[Exception]) -> None:
+    def connection_lost(self, why: Exception | None) -> None:
         self.is_gone = True
         self.inputs.remove(self.number)
         self.lines.clear()
@@ -199,23 +193,13 @@ class Client(asyncio.Protocol):
 
     def carry_out(self, sort: Sort, line: bytes) -> None:
         """Answers a line that isn't sent among others."""
-        if sort is Sort.REFUSED:
-            self.send(NOT_A_QUESTION)
-        elif sort is Sort.LONG:
-            self.send(TOO_LONG)
-        elif sort is Sort.WATCH:
+        if sort is Sort.WATCH:
             self.watches = True
             self.hub.watchers[self] = None
-            self.send(self.hub.store.imports_told())
-        elif sort is Sort.METRICS:
-            self.send(self.hub.metrics_told())
         elif sort is Sort.NOTES:
             self.has_notes = True
-            self.send(b"OK\n")
-        elif sort is Sort.IMPORTS:
-            self.send(self.hub.store.list.told(self.hub.store.imports))
-        elif sort is Sort.KNOWN:
-            self.send(self.hub.store.list.known_told(line, self.hub.store.imports))
+        if sort in AT_ONCE:
+            self.send(AT_ONCE[sort](self.hub, line))
         else:
             self.is_busy = True
             self.hub.begin(self.carried_out(sort, line))
@@ -257,15 +241,7 @@ def day_now() -> bytes:
     return time.strftime("%Y%m%d", time.gmtime()).encode()
 
 
-def with_words(line: bytes, reply: bytes, words: bytes) -> bytes:
-    """A reply of a store with troubles: that to STATUS says so."""
-    is_status = without_cr(line[:-1]).endswith(b" STATUS")
-    return b"%s%s\n" % (reply[:-1], words) if is_status else reply
-
-
 class Hub:
-    """The clients of a store."""
-
     def __init__(self, program: Program, store: Store, most_a_user: int) -> None:
         self.program, self.store, self.most_a_user = program, store, most_a_user
         self.digests = Digests(program)
@@ -315,7 +291,6 @@ class Hub:
         return True
 
     async def left(self, client: Client) -> None:
-        """Gives the session of a client back."""
         self.watchers.pop(client, None)
         self.clients.pop(client, None)
         self.store.note_left(client.session)
@@ -326,7 +301,6 @@ class Hub:
             self.told_users.discard(client.user)
 
     def begin(self, work: Coroutine[None, None, None]) -> None:
-        """Begins what is awaited."""
         task = self.loop.create_task(self.done(work))
         self.tasks.add(task)
         task.add_done_callback(self.tasks.discard)
@@ -381,18 +355,13 @@ class Hub:
             watcher.send(self.store.imports_told())
 
     def end_slowest(self) -> None:
-        """Where clients leave too much unread, the one that has done so for the longest time is
-        hung up on."""
-        while self.unread and self.count_unread() > UNREAD_LIMIT:
+        """Where clients leave too much unread, hangs up on who has done so for longest."""
+        while sum(one.transport.get_write_buffer_size() for one in self.unread) > UNREAD_LIMIT:
             slowest = next(iter(self.unread))
             del self.unread[slowest]
             slowest.transport.abort()
 
-    def count_unread(self) -> int:
-        return sum(one.transport.get_write_buffer_size() for one in self.unread)
-
     async def follow(self) -> None:
-        """Ends the hub when the program ends."""
         self.end(await self.program.ended)
 
     async def look(self) -> None:
@@ -413,7 +382,7 @@ class Hub:
 
     async def stop(self) -> None:
         """Ends the program after the lines that it answers, and then the clients."""
-        self.store.stop_copying()
+        self.store.is_stopped.set()
         await self.program.stop()
         await self.store.stop_listing()
         for client in list(self.clients):
@@ -427,3 +396,14 @@ class Hub:
         for task in tasks:
             task.cancel()
         await asyncio.gather(*tasks, return_exceptions=True)
+
+
+# What is answered at once to a line that isn't sent among others.
+AT_ONCE: dict[Sort, Callable[[Hub, bytes], bytes]] = {
+    Sort.REFUSED: lambda hub, line: NOT_A_QUESTION,
+    Sort.LONG: lambda hub, line: TOO_LONG,
+    Sort.NOTES: lambda hub, line: b"OK\n",
+    Sort.WATCH: lambda hub, line: hub.store.imports_told(),
+    Sort.METRICS: lambda hub, line: hub.metrics_told(),
+    Sort.IMPORTS: lambda hub, line: hub.store.list.told(hub.store.imports),
+    Sort.KNOWN: lambda hub, line: hub.store.list.known_told(line, hub.store.imports)}

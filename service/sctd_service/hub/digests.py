@@ -8,7 +8,7 @@ the pin, so that no import in between is seen, and the row before it, which no m
 import asyncio
 import hashlib
 import time
-from typing import Optional, Protocol
+from typing import Any, Protocol
 
 from ..logs import log
 from ..protocol import FIRST_KEY, LATER_LAYOUT, REFUSED, last_line
@@ -33,7 +33,7 @@ class Waiter(Protocol):
 
     session: int
     user: str
-    pin: Optional[bytes]
+    pin: bytes | None
     is_gone: bool
 
     def end_if_left(self) -> None:
@@ -49,20 +49,19 @@ class PageRefused(Exception):
 
 
 class Digests:
-    """Computes some digests at a time, for clients of `asking`. Those of `waiting` have no place
-    yet, each with whether it is given one."""
+    """Computes some digests at a time, for clients of `asking`, each of which waits for a place."""
 
     def __init__(self, program: Program) -> None:
-        self.program, self.free = program, MOST_DIGESTS
-        self.asking: dict[Waiter, None] = {}
-        self.waiting: "dict[Waiter, asyncio.Future[bool]]" = {}
+        self.program, self.places = program, asyncio.Semaphore(MOST_DIGESTS)
+        self.asking: "dict[Waiter, asyncio.Task[Any]]" = {}
 
     async def reply(self, client: Waiter, line: bytes, imports: int) -> bytes:
         """The reply to a DIGEST that comes after so many imports; nothing if the client leaves."""
         pin = pin_named(line) or client.pin or b"%d" % imports
-        self.asking[client] = None
+        place = self.asking[client] = asyncio.create_task(self.places.acquire())
         try:
-            return await self.in_turn(client, line, pin) if await self.has_place(client) else b""
+            await asyncio.wait([place])
+            return b"" if place.cancelled() else await self.in_turn(client, line, pin)
         finally:
             del self.asking[client]
 
@@ -74,37 +73,18 @@ class Digests:
         except PageRefused as refused:
             return refused.reply
         finally:
-            self.give_place()
+            self.places.release()
             if (took := time.monotonic() - began) > SLOW_SECONDS:
                 log("%.1f s for %s of %s" % (took, shown(without_cr(line)), client.user))
 
     def end_left(self) -> None:
-        """Ends the connections of the clients that have left meanwhile."""
         for client in list(self.asking):
             client.end_if_left()
 
-    async def has_place(self, client: Waiter) -> bool:
-        """Waits for a place. There is none for a client that leaves."""
-        if self.free:
-            self.free -= 1
-            return True
-        given: "asyncio.Future[bool]" = asyncio.get_running_loop().create_future()
-        self.waiting[client] = given
-        return await given
-
-    def give_place(self) -> None:
-        """Gives a place to the client that has waited longest."""
-        if self.waiting:
-            self.end_waiting(next(iter(self.waiting)), True)
-        else:
-            self.free += 1
-
-    def end_waiting(self, client: Waiter, has_place: bool = False) -> None:
-        """Ends the waiting of a client that is given a place, or has left."""
-        given = self.waiting.pop(client, None)
-        # (Where the hub ends, that has ended it.)
-        if given is not None and not given.done():
-            given.set_result(has_place)
+    def end_waiting(self, client: Waiter) -> None:
+        """Ends the waiting of a client that has left."""
+        if client in self.asking:
+            self.asking[client].cancel()
 
     async def computed(self, client: Waiter, pin: bytes) -> bytes:
         """The reply of the rows at a pin, of no use once the client has left."""
@@ -118,7 +98,6 @@ class Digests:
         return b"OK %s\n" % text.hexdigest().encode()
 
     async def page(self, client: Waiter, pin: bytes, kind: bytes, last: bytes) -> bytes:
-        """The next rows of a kind, as lines."""
         line = b"AT %s ROWS %s %s %d" % (pin, kind, last, PAGE_ROWS)
         reply = await self.program.ask(client.session, line, client.user)
         end = last_line(reply)

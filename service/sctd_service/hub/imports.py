@@ -50,12 +50,9 @@ PARTS, DEPTH, READ_SIZE = (b"Refset", b"Terminology"), 1, 1 << 20
 # What KNOWN asks, and why there is no answer.
 KNOWN = re.compile(rb"KNOWN ([0-9]{8})")
 ARGUMENTS = b"ERR 43 Arguments\n"
-NO_IMPORT, NOT_LISTED = "NoImport", "NotListed"
 
 
 class Entry(NamedTuple):
-    """A line of the list."""
-
     number: int
     time: str
     name: str
@@ -71,25 +68,16 @@ class Entry(NamedTuple):
 class NotKnown(Exception):
     """Why it isn't known which imports there were on a day: the word of the reply, and a text."""
 
-    def __init__(self, word: str, text: str) -> None:
-        super().__init__("%s %s" % (word, text))
-
-
-class NotAList(OSError):
-    """A file that isn't read and not written to."""
-
 
 class Found(NamedTuple):
-    """What a list has: the entries that count, how many bytes are whole lines, the numbers of lines
-    that can't be read, and whether there is something behind the last end of a line."""
+    """What a list has: the entries that count, the numbers of lines that can't be read, and whether
+    there is something behind the last end of a line."""
 
     entries: dict[int, Entry]
-    whole: int = 0
     unread: Sequence[int] = ()
     is_cut: bool = False
 
     def faults(self) -> Iterator[str]:
-        """What is wrong with the file."""
         if self.unread:
             yield "%d of its lines can't be read, the first of which is line %d" % (
                 len(self.unread), self.unread[0])
@@ -98,7 +86,6 @@ class Found(NamedTuple):
 
 
 def found_in(text: bytes) -> Found:
-    """What counts of a list."""
     whole, entries, unread = whole_of(text), dict[int, Entry](), list[int]()
     for place, line in enumerate(text[:whole].split(b"\n")[1:-1], 2):
         if found := LINE.fullmatch(line):
@@ -110,14 +97,14 @@ def found_in(text: bytes) -> Found:
             take_back(entries, int(found[1]))
         else:
             unread.append(place)
-    return Found(entries, whole, unread, whole < len(text))
+    return Found(entries, unread, whole < len(text))
 
 
 def whole_of(text: bytes) -> int:
     """How many bytes of a list are whole lines."""
     whole = text.rfind(b"\n") + 1
     if not text.startswith(FIRST_LINE) and (whole or not FIRST_LINE.startswith(text)):
-        raise NotAList("it is no list of imports that this hub knows")
+        raise OSError("it is no list of imports that this hub knows")
     return whole
 
 
@@ -141,10 +128,10 @@ def read(path: str) -> tuple[int, Found]:
 
 
 def text_of(number: int) -> bytes:
-    """The text of an open file, if it can be a list."""
+    """The text of an open file, which is neither read nor written to if it can't be a list."""
     state = os.fstat(number)
     if not stat.S_ISREG(state.st_mode) or state.st_size > MOST_BYTES:
-        raise NotAList("it is no file of %d bytes at most" % MOST_BYTES)
+        raise OSError("it is no file of %d bytes at most" % MOST_BYTES)
     return os.pread(number, MOST_BYTES, 0)
 
 
@@ -243,8 +230,7 @@ class ImportList:
         log("%s: %s" % (self.path, text))
 
     async def begin(self, program: Program, imports: int, may_write: bool) -> None:
-        """Reads the list of a store with so many imports, and tells in what it differs from that.
-        """
+        """Reads the list of a store with so many imports, and tells in what they differ."""
         try:
             self.size, found = await asyncio.to_thread(read, self.path)
         except OSError as why:
@@ -279,11 +265,9 @@ class ImportList:
                           "first of them for import %d: they don't count" % (len(wrong), wrong[0]))
 
     def missing(self, imports: int) -> list[int]:
-        """The imports that have no line."""
         return [number for number in range(1, imports + 1) if number not in self.entries]
 
     async def add(self, reply: bytes, name: bytes, digest: str, who: str) -> None:
-        """Adds the line of an import that was answered so."""
         number, new, repeated = map(int, reply.split(b" ")[1:])
         entry = Entry(number, now(), name.decode(), new, repeated, digest, who)
         self.entries[number] = entry
@@ -313,7 +297,6 @@ class ImportList:
         return self.reply[1]
 
     def known_told(self, line: bytes, imports: int) -> bytes:
-        """What KNOWN is answered."""
         asked = KNOWN.fullmatch(without_cr(line))
         if not asked or not is_day(day := asked[1].decode()):
             return ARGUMENTS
@@ -324,20 +307,19 @@ class ImportList:
         return b"OK %d %s\n" % (last.number, last.time.encode())
 
     def known(self, day: str, imports: int) -> Entry:
-        """The last import that was made by the end of a day."""
         if day > now()[: len(day)]:
-            raise NotKnown(NO_IMPORT, "the day %s hasn't begun: days are those of UTC" % day)
+            raise NotKnown("NoImport the day %s hasn't begun: days are those of UTC" % day)
         last = max((number for number, one in self.entries.items()
                     if number <= imports and one.time[: len(day)] <= day), default=0)
         if last < imports and last + 1 not in self.entries:
-            raise NotKnown(NOT_LISTED, "the list of imports has no line for import %d, so it isn't "
+            raise NotKnown("NotListed the list of imports has no line for import %d, so it isn't "
                            "known whether it was made by the end of %s" % (last + 1, day))
         if not last:
             first = "which was made at %s" % self.entries[1].time if imports else "as there is none"
-            raise NotKnown(NO_IMPORT, "the day %s is before the first import, %s" % (day, first))
+            raise NotKnown("NoImport the day %s is before the first import, %s" % (day, first))
         if later := [number for number, one in self.entries.items()
                      if number < last and one.time[: len(day)] > day]:
-            raise NotKnown(NOT_LISTED, "the list of imports says of import %d that it was made "
+            raise NotKnown("NotListed the list of imports says of import %d that it was made "
                            "after %s, and of a later one that it wasn't" % (later[0], day))
         return self.entries[last]
 

@@ -10,7 +10,6 @@ import asyncio
 import os
 import select
 from collections.abc import Callable
-from typing import Optional
 
 from ..protocol import READ_BYTES
 
@@ -59,7 +58,7 @@ class Inputs:
         self.after()
 
 
-def read(number: int) -> Optional[bytes]:
+def read(number: int) -> bytes | None:
     """What is at hand. (Who resets a connection has left.)"""
     try:
         return os.read(number, READ_BYTES)

@@ -15,8 +15,6 @@ Sample = tuple[str, float]
 
 
 class Times:
-    """How long lines of one kind took."""
-
     def __init__(self) -> None:
         self.counts, self.sum, self.longest = [0] * (len(BOUNDS) + 1), 0.0, 0.0
 

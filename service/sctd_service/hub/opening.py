@@ -22,7 +22,7 @@ class NoStore(Exception):
 
 
 def make(program: str, store: str) -> None:
-    """Makes the store if this is the first start."""
+    """Makes the store and leaves the note if this is the first start."""
     folder = Path(store).absolute().parent
     if not os.path.lexists(store):
         beside = [entry.name for entry in os.scandir(folder) if not entry.is_dir()]
@@ -34,12 +34,8 @@ def make(program: str, store: str) -> None:
         if done.returncode:
             raise NoStore("%s: it can't be made: %s" % (store, done.stdout.decode().strip()))
         tell("hub: %s: a new store" % store)
-    leave_note(folder / NOTE, os.path.basename(store))
-
-
-def leave_note(note: Path, name: str) -> None:
-    if not note.exists():
-        note.write_text(NOTED % (now(), name), encoding="utf-8")
+    if not (note := folder / NOTE).exists():
+        note.write_text(NOTED % (now(), os.path.basename(store)), encoding="utf-8")
 
 
 def drop_pages(store: str, is_read_only: bool) -> None:

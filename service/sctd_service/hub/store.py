@@ -7,7 +7,6 @@ import os
 import threading
 import time
 from collections.abc import Callable
-from typing import Optional
 
 from ..logs import log, pass_on, tell
 from ..protocol import DAMAGED, REFUSED, REPLY, last_line
@@ -57,16 +56,16 @@ class Store:
         # no space ends the hub, and the next one would do so again before it answered anything.)
         self.may_merge = asyncio.Event()
         # The client's session that has begun a merge.
-        self.merging: Optional[int] = None
+        self.merging: int | None = None
         # Held while a release is checked on a copy of the store.
         self.checks = asyncio.Lock()
-        self.copying: Optional[Copying] = None
+        # Set where the hub ends: no copy is made any longer.
+        self.is_stopped = threading.Event()
         # What is known of the imports, and the release whose files are hashed.
         self.list = ImportList(path)
-        self.hashing: Optional[Hashing] = None
+        self.hashing: Hashing | None = None
 
     async def change(self, session: int, line: bytes, user: str = "hub") -> bytes:
-        """The reply to a line that may change the store, once it is logged."""
         word = first_word(line)
         asking = (self.imported if word == IMPORT else self.on_a_copy if word in TASKS
                   else self.asked)
@@ -80,8 +79,7 @@ class Store:
         return reply
 
     async def imported(self, session: int, line: bytes, user: str) -> bytes:
-        """The reply to an import, for which room is made first, with what the program told of it.
-        """
+        """The reply to an import, with what the program told of it. Room is made for it first."""
         async with self.imports_lock:
             await self.make_room()
             name = name_in(line)
@@ -90,7 +88,9 @@ class Store:
             try:
                 reply, notes = await self.asked_and_told(session, line, user)
                 if not reply.startswith(REFUSED):
-                    await self.listed(reply, name, await digest, user)
+                    if (found := await digest) == NOTHING:
+                        log("%s: no digest of its files: %s" % (shown(name), self.hashing.why))
+                    await self.list.add(reply, name, found, user)
                 return with_notes(notes, reply)
             finally:
                 self.hashing.is_stopped.set()
@@ -146,21 +146,21 @@ class Store:
         with contextlib.suppress(OSError):
             os.unlink(path)  # A hub that was killed may have left one.
         async with self.changes:
-            return await self.in_thread(Copying(self.path, self.file, path, is_kept=False))
+            return await asyncio.to_thread(filled, path, self.fill, is_kept=False)
 
-    async def in_thread(self, copying: "Copying") -> "NewFile":
-        """Makes a copy while the loop goes on."""
-        self.copying = copying
-        try:
-            return await asyncio.to_thread(copying.copy)
-        finally:
-            self.copying = None
+    def fill(self, made: "NewFile") -> None:
+        """Copies the store's file into a new one, in a thread of its own."""
+        with open(self.path, "rb") as source:
+            if not os.path.samestat(os.fstat(source.fileno()), self.file):
+                raise Refused("the store's file was replaced")
+            while part := source.read(COPY_SIZE):
+                self.go_on()
+                made.file.write(part)
+        self.go_on()
 
-    async def listed(self, reply: bytes, name: bytes, digest: str, user: str) -> None:
-        """Adds the line of an import that was answered so to the list."""
-        if digest == NOTHING and self.hashing:
-            log("%s: no digest of its files: %s" % (shown(name), self.hashing.why))
-        await self.list.add(reply, name, digest, user)
+    def go_on(self) -> None:
+        if self.is_stopped.is_set():
+            raise Refused("the hub ends")
 
     async def asked(self, session: int, line: bytes, user: str) -> bytes:
         """The reply to a line while nothing else changes or copies the store."""
@@ -168,7 +168,6 @@ class Store:
             return await self.program.ask(session, line, user, alone=True)
 
     def note_reply(self, session: int, line: bytes, reply: bytes) -> None:
-        """Notes what a line has changed, and logs its reply."""
         word, is_refused = first_word(line), reply.startswith(REFUSED)
         self.program.metrics.changed(line, reply)
         if word in LOGGED or (word in LOGGED_REFUSED and is_refused):
@@ -176,11 +175,8 @@ class Store:
         if word == IMPORT and not is_refused:
             self.imports = int(reply.split(b" ")[1])
             self.on_import()
-        if session != HUB_SESSION and not is_refused:
-            self.note_change(session, word)
-
-    def note_change(self, session: int, word: bytes) -> None:
-        """Notes what a client has changed."""
+        if session == HUB_SESSION or is_refused:
+            return
         if word == b"MERGE":
             self.merging = session
         elif word in (b"PUBLISH", b"ABANDON"):
@@ -194,7 +190,6 @@ class Store:
             self.may_merge.set()
 
     async def status(self) -> list[bytes]:
-        """The words of the reply to STATUS."""
         reply = (await self.program.ask(HUB_SESSION, b"STATUS"))[:-1]
         if reply.startswith(REFUSED):
             raise Refused("STATUS was answered %s" % shown(reply))
@@ -252,14 +247,12 @@ class Store:
             return last == b"OK"
 
     async def merge_line(self, line: bytes) -> bytes:
-        """The reply to a line of a merge of the hub's own."""
         reply = await self.change(HUB_SESSION, line)
         if self.program.is_over:
             raise ProgramEndedError(1)
         return reply[:-1]
 
     async def backup(self, line: bytes) -> bytes:
-        """The reply to BACKUP."""
         name = name_in(line)
         try:
             reply = await self.copied(name)
@@ -276,7 +269,7 @@ class Store:
         async with self.imports_lock, self.changes:
             wanted = (await self.status())[:4]
             text = self.list.text()
-            made = await self.in_thread(Copying(self.path, self.file, path))
+            made = await asyncio.to_thread(filled, path, self.fill)
         with contextlib.closing(made):
             try:
                 found, why = map(bytes.rstrip, await carried_out(
@@ -289,10 +282,6 @@ class Store:
                 made.remove()
                 raise
         return b" ".join(wanted)
-
-    def stop_copying(self) -> None:
-        if self.copying is not None:
-            self.copying.is_stopped.set()
 
     async def stop_listing(self) -> None:
         """Waits no longer for a digest, and for room on the disk."""
@@ -308,7 +297,6 @@ def name_in(line: bytes) -> bytes:
 
 
 def path_of(name: bytes) -> str:
-    """The path that BACKUP names."""
     try:
         path = name.decode()
     except UnicodeDecodeError:
@@ -354,9 +342,8 @@ class NewFile:
             self.file.close()
 
 
-def filled(path: str, fill: Callable[[NewFile], None], is_kept: bool = True) -> NewFile:
-    """Makes a new file, and syncs it and its folder if it is to be kept. If that fails, the file is
-    removed."""
+def filled(path: str, fill: Callable[[NewFile], object], is_kept: bool = True) -> NewFile:
+    """Makes a new file, and syncs it and its folder if it is kept. If that fails it is removed."""
     try:
         made = NewFile(path)
         try:
@@ -374,35 +361,7 @@ def filled(path: str, fill: Callable[[NewFile], None], is_kept: bool = True) -> 
 
 def copy_list(path: str, text: bytes) -> None:
     """Makes the list of the imports that a copy has, beside it."""
-    def fill(made: NewFile) -> None:
-        made.file.write(text)
-
     try:
-        filled(path, fill).close()
+        filled(path, lambda made: made.file.write(text)).close()
     except Refused as why:
         raise Refused("the list of imports: %s" % why) from None
-
-
-class Copying:
-    """A copy of the store's file that is being made. It is made in a thread of its own."""
-
-    def __init__(self, source: str, stat: os.stat_result, path: str, is_kept: bool = True) -> None:
-        self.source, self.stat, self.path, self.is_kept = source, stat, path, is_kept
-        self.is_stopped = threading.Event()
-
-    def copy(self) -> NewFile:
-        return filled(self.path, self.fill, self.is_kept)
-
-    def fill(self, made: NewFile) -> None:
-        """Copies the store's file into the new one."""
-        with open(self.source, "rb") as source:
-            if not os.path.samestat(os.fstat(source.fileno()), self.stat):
-                raise Refused("the store's file was replaced")
-            while part := source.read(COPY_SIZE):
-                self.go_on()
-                made.file.write(part)
-        self.go_on()
-
-    def go_on(self) -> None:
-        if self.is_stopped.is_set():
-            raise Refused("the hub ends")

@@ -26,7 +26,6 @@ async def codes_of(view: View, day: str, expression: syntax.Expression) -> Codes
 
 async def those_in(view: View, day: str, expression: syntax.Expression,
                    codes: Iterable[str]) -> set[str]:
-    """Those of the concepts that an expression means."""
     among = frozenset(codes)
     name = REMEMBERED % spelled(expression)
     known = view.session.remembered_set(view.session.pool.refsets, day, name)

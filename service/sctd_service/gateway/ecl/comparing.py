@@ -1,7 +1,5 @@
 """When a text, a number or a day fits what an expression compares it with."""
 
-from __future__ import annotations
-
 import operator
 import re
 import unicodedata
@@ -73,13 +71,8 @@ def fits_text(wanted: s.Text, text: str) -> bool:
     return any(FITS[how](one, text) for how, one in wanted.typed)
 
 
-def number_of(text: str) -> Decimal | None:
-    return Decimal(text) if NUMBER.match(text) else None
-
-
 def fits_number(said: str, comparison: str, wanted: s.Number) -> bool:
-    number = number_of(said)
-    return number is not None and ORDERS[comparison](number, wanted.value)
+    return NUMBER.match(said) is not None and ORDERS[comparison](Decimal(said), wanted.value)
 
 
 def fits_day(said: str, comparison: str, wanted: s.Text) -> bool:

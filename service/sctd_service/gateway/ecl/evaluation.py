@@ -11,21 +11,18 @@ Each step is asked for all concepts that it means, or for those among some: then
 these alone where they are few. So one code is tested without making the set that it may be in.
 """
 
-from __future__ import annotations
-
 from collections.abc import Iterable, Sequence
 
 from . import syntax as s
 from .. import limits
 from . import filtering, refining
-from .fields import Fields
+from .refining import NOTHING
 from .syntax import Ids
 from .terminology import Terminology
 from ..store import TooManyTerms
 from ...snomed import (
     PARTIALLY_EQUIVALENT_TO, REPLACED_BY, SAME_AS, WAS_A, Description, is_id_of_concept)
 
-NOTHING: Ids = frozenset()
 # The association reference sets of a profile; None is every one.
 PROFILES = {
     s.MIN: frozenset([SAME_AS]),
@@ -47,7 +44,7 @@ class Evaluation:
 
     def __init__(self, terminology: Terminology) -> None:
         self.store, self.kept = terminology, dict[s.Expression, Ids]()
-        self.fields = Fields(terminology)
+        self.fields = filtering.Fields(terminology)
 
     async def meant(self, e: s.Expression, among: Ids | None = None) -> Ids:
         """The concepts that an expression means, or those of `among`, all of which are ids of
@@ -96,7 +93,6 @@ class Evaluation:
     # ---- the hierarchy
 
     async def related(self, operator: str, of: Ids) -> Ids:
-        """All that a constraint operator means of a set."""
         if operator in (s.TOP, s.BOTTOM):
             # Of the tops none is below another, of the bottoms none above.
             return of - await self.reached(of, operator == s.TOP)
@@ -106,14 +102,14 @@ class Evaluation:
         return own | await self.reached(of, operator[0] == "<")
 
     async def next_ones(self, of: Ids, is_down: bool) -> Ids:
-        found = await (self.store.children(of) if is_down else self.store.parents(of))
+        found = await (self.store.near("CHILDREN", of) if is_down else self.store.parents(of))
         return union(found.values())
 
     async def reached(self, of: Ids, is_down: bool) -> Ids:
         """All below these concepts, or above them. Of many each step is asked once."""
         if are_few(of):
-            ask = self.store.descendants if is_down else self.store.ancestors
-            return union((await ask(of)).values())
+            question = "DESCENDANTS" if is_down else "ANCESTORS"
+            return union((await self.store.near(question, of)).values())
         found, seen, left = NOTHING, of, of
         while left:
             next_ones = await self.next_ones(left, is_down)
@@ -123,16 +119,16 @@ class Evaluation:
         return found
 
     async def related_among(self, operator: str, of: s.Expression, among: Ids) -> Ids:
-        """Those among few concepts that a constraint operator means, by what is next to them, or
-        above."""
+        """Those among few concepts that an operator means, by what is next to them, or above."""
         if operator == s.BOTTOM:
             among = await self.meant(of, among)
-            near = await self.store.descendants(among)
-        elif operator[-1] == "!":
-            is_child = operator[0] == "<"
-            near = await (self.store.parents(among) if is_child else self.store.children(among))
+            near = await self.store.near("DESCENDANTS", among)
+        elif operator[-1] != "!":
+            near = await self.store.near("ANCESTORS", among)
+        elif operator[0] == "<":
+            near = await self.store.parents(among)
         else:
-            near = await self.store.ancestors(among)
+            near = await self.store.near("CHILDREN", among)
         own = await self.meant(of, union(near.values()) | among)
         if operator in (s.TOP, s.BOTTOM):
             return frozenset(code for code in among & own if not near[code] & own)
@@ -142,17 +138,12 @@ class Evaluation:
     async def compound(self, e: s.Compound, among: Ids | None) -> Ids:
         if e.operator == s.OR:
             return union([await self.meant(part, among) for part in e.parts])
-        first, *others = e.parts
-        if e.operator == s.MINUS:
-            found = await self.meant(first, among)
-            for part in others:
-                found -= await self.meant(part, found)
-            return found
         # Those that are asked in one line come first, and of others only what these leave is asked.
-        first, *others = sorted(e.parts, key=s.cost)
+        first, *others = e.parts if e.operator == s.MINUS else sorted(e.parts, key=s.cost)
         found = await self.meant(first, among)
         for part in others:
-            found = await self.meant(part, found)
+            own = await self.meant(part, found)
+            found = found - own if e.operator == s.MINUS else own
         return found
 
     # ---- reference sets
@@ -212,8 +203,7 @@ class Evaluation:
 
     async def with_history(self, focus: s.Expression, by: str | s.Expression,
                            among: Ids | None) -> Ids:
-        """Adds the inactive concepts whose active associations have one of the set as target, one
-        step back."""
+        """Adds inactive concepts of which an active association has one of the set as target."""
         if among is not None and are_few(among):
             told = await self.store.replaced(among)
             targets = (row.target for row in told if is_id_of_concept(row.target))

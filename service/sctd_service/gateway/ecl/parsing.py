@@ -4,9 +4,8 @@ from __future__ import annotations
 
 import functools
 import re
-from collections.abc import Sequence
+from collections.abc import Callable, Sequence
 from decimal import Decimal
-from pathlib import Path
 from typing import Any
 
 from lark import Lark, Token, Transformer, UnexpectedInput, UnexpectedToken, v_args
@@ -20,7 +19,6 @@ from ...snomed import (
     ACCEPTABLE, COMPONENT_IDS, CONCEPT_ID, DEFINED, FULLY_SPECIFIED_NAME, PREFERRED, PRIMITIVE,
     SYNONYM, TEXT_DEFINITION, is_day, is_sctid)
 
-GRAMMAR = Path(__file__).parent / "grammar.lark"
 # What a filter compares with: an expression or a list of concepts, ids of descriptions, words (some
 # of which are known), a day, whether something is so, or a text.
 CODES, IDS, WORDS, DAYS, TRUTHS, TEXTS = "codes", "ids", "words", "days", "truths", "texts"
@@ -57,7 +55,6 @@ def misspelt_at(token: Token, why: str) -> Problem:
 
 
 def parse(text: str) -> s.Expression:
-    """The tree of an expression."""
     must_be_shallow(text)
     try:
         tree = parser().parse(text)
@@ -88,12 +85,21 @@ def must_be_shallow(text: str) -> None:
 
 @functools.cache
 def parser() -> Lark:
-    return Lark(GRAMMAR.read_text("utf-8"), parser="lalr", maybe_placeholders=False)
+    return Lark.open("grammar.lark", __file__, parser="lalr", maybe_placeholders=False)
+
+
+def joined_by(operator: str, kind: type[s.Compound] | type[s.Junction]) -> Callable[..., Any]:
+    """Makes what has an operator between its parts."""
+    return lambda _, *parts: kind(operator, parts)
 
 
 @v_args(inline=True)
 class Builder(Transformer[Token, Any]):
     """Makes the tree, from its leaves on. `others` are the places of ids that are no concept's."""
+
+    conjunction, disjunction = joined_by(s.AND, s.Compound), joined_by(s.OR, s.Compound)
+    exclusion = joined_by(s.MINUS, s.Compound)
+    both, either = joined_by(s.AND, s.Junction), joined_by(s.OR, s.Junction)
 
     def __init__(self) -> None:
         super().__init__(visit_tokens=False)
@@ -125,23 +131,11 @@ class Builder(Transformer[Token, Any]):
             raise not_supported("one field of a reference set is answered at a time")
         return str(names[0])
 
-    def members(self, filters: list[Named]) -> list[Named]:
-        return filters
-
     def member_of(self, *found: Any) -> s.MemberOf:
         parts = list(found)
         field = parts.pop(0) if isinstance(parts[0], str) else ""
         filters = tuple(one for some in parts[1:] for one in checked(s.OF_MEMBER, some))
         return s.MemberOf(parts[0], field, filters)
-
-    def conjunction(self, *parts: s.Expression) -> s.Compound:
-        return s.Compound(s.AND, parts)
-
-    def disjunction(self, *parts: s.Expression) -> s.Compound:
-        return s.Compound(s.OR, parts)
-
-    def exclusion(self, *parts: s.Expression) -> s.Compound:
-        return s.Compound(s.MINUS, parts)
 
     def refined(self, focus: s.Expression, refinement: s.Refinement) -> s.Refined:
         return s.Refined(focus, refinement)
@@ -157,8 +151,7 @@ class Builder(Transformer[Token, Any]):
         found = WHOLE_PROFILE.match(profile)
         return s.WithHistory(focus, found[1].upper() if found else s.MAX)
 
-    def with_history(self, focus: s.Expression, profile: Token,
-                     by: s.Expression) -> s.WithHistory:
+    def with_history(self, focus: s.Expression, profile: Token, by: s.Expression) -> s.WithHistory:
         if profile.lower() != PROFILE:
             raise misspelt_at(profile, "a profile and reference sets are given")
         return s.WithHistory(focus, by)
@@ -204,12 +197,6 @@ class Builder(Transformer[Token, Any]):
         value, _, own = dialects if isinstance(dialects, list) else (dialects, (), ())
         return [value, within, own]
 
-    def both(self, *parts: s.Refinement) -> s.Junction:
-        return s.Junction(s.AND, parts)
-
-    def either(self, *parts: s.Refinement) -> s.Junction:
-        return s.Junction(s.OR, parts)
-
     def group(self, *found: Any) -> s.AttributeGroup:
         *cardinality, begin, attributes = found
         if has_group(attributes):
@@ -241,10 +228,7 @@ class Builder(Transformer[Token, Any]):
         return s.Number(Decimal(str(number)))
 
     def truth(self, truth: Token) -> s.Truth:
-        return s.Truth(truth.lower() == "true")
-
-    def bit(self, bit: Token) -> s.Truth:
-        return s.Truth(bit == "1")
+        return s.Truth(truth.lower() in ("true", "1"))
 
     def typed(self, *found: Token) -> tuple[str, str]:
         how = found[0].rstrip(": \t\r\n").lower() if len(found) == 2 else s.MATCH
@@ -302,7 +286,12 @@ def is_of(form: str, one: s.Filter, others: dict[str, Token] | None) -> bool:
         return isinstance(value, tuple) and not are_codes(value)
     if form == IDS:
         ids = (value.code,) if isinstance(value, s.ConceptReference) else value
-        return isinstance(ids, tuple) and are_codes(ids) and pop_all(others, ids)
+        if not isinstance(ids, tuple) or not are_codes(ids):
+            return False
+        # They are ids of descriptions, as they should be.
+        for code in ids:
+            (others or {}).pop(code, None)
+        return True
     if form == CODES:
         return are_codes(value) if isinstance(value, tuple) else not isinstance(value, s.Concrete)
     return not isinstance(value, tuple) or are_codes(value)
@@ -310,13 +299,6 @@ def is_of(form: str, one: s.Filter, others: dict[str, Token] | None) -> bool:
 
 def are_codes(words: Sequence[str]) -> bool:
     return all(word.isdigit() for word in words)
-
-
-def pop_all(others: dict[str, Token] | None, ids: Sequence[str]) -> bool:
-    """These are ids of descriptions, as they should be."""
-    for one in ids:
-        (others or {}).pop(one, None)
-    return True
 
 
 def normal(name: str, one: s.Filter, token: Token) -> s.Filter:

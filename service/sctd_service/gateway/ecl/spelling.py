@@ -1,8 +1,6 @@
 """Spells a tree of `syntax` as an expression that is read as this tree again. So expressions that
 differ in spaces, terms and comments alone are spelled alike."""
 
-from __future__ import annotations
-
 from collections.abc import Iterable, Sequence
 
 from . import syntax as s
@@ -57,17 +55,12 @@ def spelled_refinement(r: s.Refinement) -> str:
         return (" %s " % r.operator).join(
             "(%s)" % spelled_refinement(part) if isinstance(part, s.Junction)
             else spelled_refinement(part) for part in r.parts)
-    times = spelled_cardinality(r.cardinality)
+    least, most = r.cardinality.least, r.cardinality.most
+    times = "[%d..%s] " % (least, "*" if most is None else most) if r.cardinality != s.SOME else ""
     if isinstance(r, s.AttributeGroup):
         return "%s{ %s }" % (times, spelled_refinement(r.attributes))
     reverse = "R " if r.is_reverse else ""
     return "%s%s%s %s %s" % (times, reverse, inner(r.name), r.comparison, spelled_value(r.value))
-
-
-def spelled_cardinality(c: s.Cardinality) -> str:
-    if c == s.SOME:
-        return ""
-    return "[%d..%s] " % (c.least, "*" if c.most is None else c.most)
 
 
 def spelled_value(value: s.Value) -> str:
@@ -77,14 +70,11 @@ def spelled_value(value: s.Value) -> str:
         case s.Truth(truth):
             return "true" if truth else "false"
         case s.Text(typed):
-            return listed([("" if how == s.MATCH else how + ":") + quoted(text)
-                           for how, text in typed])
+            quoted = [(how, text.replace("\\", "\\\\").replace('"', '\\"')) for how, text in typed]
+            return listed(
+                '%s"%s"' % ("" if how == s.MATCH else how + ":", text) for how, text in quoted)
         case _:
             return inner(value)
-
-
-def quoted(text: str) -> str:
-    return '"%s"' % text.replace("\\", "\\\\").replace('"', '\\"')
 
 
 def listed(words: Iterable[str]) -> str:

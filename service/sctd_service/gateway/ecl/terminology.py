@@ -1,8 +1,6 @@
 """What the evaluation of an expression asks the store, as of one pin and one day. Nothing else of
 `ecl` asks anything."""
 
-from __future__ import annotations
-
 import asyncio
 import itertools
 from collections.abc import AsyncIterator, Callable, Collection, Iterable, Sequence
@@ -11,7 +9,7 @@ from typing import NamedTuple, TypeVar
 from .. import limits, refsets
 from ..hub import Reply
 from ..problems import too_costly
-from ..store import FIRST, View, columns_of, ids, member_of, members_of, rows
+from ..store import FIRST, REFERENCED, Row, View, columns_of, ids, member_of, members_of, rows
 from ...snomed import (
     ASSOCIATIONS, IS_A, Association, Concept, Description, RefsetMember, Relationship,
     is_id_of_concept)
@@ -21,9 +19,9 @@ Item = TypeVar("Item")
 # The kinds of relationships: with a concept as value, and with a concrete one.
 TO_CONCEPTS, CONCRETE = "R", "V"
 ANY_TYPE = "-"
-# Where a row has whether it is active, the concept of a description, the source and the destination
-# of a relationship, and what a member refers to.
-ACTIVE, DESCRIBED, SOURCE, DESTINATION, REFERENCED = 2, 4, 4, 5, 5
+# Where a row has whether it is active, the concept of a description, and the source and the
+# destination of a relationship.
+ACTIVE, DESCRIBED, SOURCE, DESTINATION = 2, 4, 4, 5
 # The sources of relationships, by their destinations.
 Sources = dict[str, set[str]]
 
@@ -90,14 +88,18 @@ class Terminology:
                 yield reply
             await asyncio.sleep(0)
 
-    async def told(self, question: str,
-                   codes: Collection[str]) -> AsyncIterator[tuple[str, Reply]]:
-        """What is said of each of the codes."""
+    async def told(self, question: str, codes: Collection[str]) -> AsyncIterator[tuple[str, Reply]]:
         ordered = sorted(codes, key=int)
         lines = ["%s %s %s" % (question, code, self.day) for code in ordered]
         left = iter(ordered)
         async for reply in self.replies(lines):
             yield next(left), reply
+
+    async def rows(self, question: str, kind: type[Row],
+                   codes: Collection[str]) -> AsyncIterator[Row]:
+        async for _, reply in self.told(question, codes):
+            for row in rows(kind, reply):
+                yield row
 
     async def pages(self, question: str, place: int = 0) -> AsyncIterator[list[list[str]]]:
         """The rows of all pages of a question, which goes on behind what stands at a place."""
@@ -130,22 +132,13 @@ class Terminology:
         wanted = frozenset(filter(is_id_of_concept, codes))
         if len(wanted) > limits.ASKED_ONE_BY_ONE:
             return [row async for row in self.every_concept() if row.id in wanted]
-        return [
-            row async for _, reply in self.told("GET C", wanted) for row in rows(Concept, reply)]
+        return [row async for row in self.rows("GET C", Concept, wanted)]
 
     # ---- the hierarchy
 
-    async def each(self, question: str, codes: Collection[str]) -> dict[str, Ids]:
+    async def near(self, question: str, codes: Collection[str]) -> dict[str, Ids]:
+        """What CHILDREN, DESCENDANTS or ANCESTORS says of each of the codes."""
         return {code: frozenset(ids(reply)) async for code, reply in self.told(question, codes)}
-
-    async def children(self, codes: Collection[str]) -> dict[str, Ids]:
-        return await self.each("CHILDREN", codes)
-
-    async def descendants(self, codes: Collection[str]) -> dict[str, Ids]:
-        return await self.each("DESCENDANTS", codes)
-
-    async def ancestors(self, codes: Collection[str]) -> dict[str, Ids]:
-        return await self.each("ANCESTORS", codes)
 
     async def parents(self, codes: Collection[str]) -> dict[str, Ids]:
         said = await self.relationships(codes, TO_CONCEPTS)
@@ -156,8 +149,7 @@ class Terminology:
 
     async def relationships(self, codes: Collection[str],
                             kinds: str) -> dict[str, frozenset[Stated]]:
-        """What active relationships of these kinds say of each of the concepts, "is a" among them,
-        each once."""
+        """What active relationships of these kinds say of each concept, once; "is a" among them."""
         found = dict.fromkeys(codes, frozenset[Stated]())
         for kind in kinds:
             missing = self.not_stated(codes, kind)
@@ -208,7 +200,7 @@ class Terminology:
         if types is not None:
             return await self.linked(types - {IS_A}, destinations)
         found = await self.linked([ANY_TYPE], destinations)
-        below = await self.children(destinations)
+        below = await self.near("CHILDREN", destinations)
         doubtful = frozenset(one for code, some in found.items() for one in some & below[code])
         said = await self.relationships(doubtful, TO_CONCEPTS)
         for code, some in found.items():
@@ -243,9 +235,8 @@ class Terminology:
             async for row in self.rows_of_pages("PAGE D", codes, DESCRIBED):
                 yield Description(*row)
         else:
-            async for _, reply in self.told("ABOUT D", codes):
-                for one in rows(Description, reply):
-                    yield one
+            async for one in self.rows("ABOUT D", Description, codes):
+                yield one
 
     async def with_words(self, texts: Iterable[str]) -> list[Description]:
         """The active descriptions of which a term has the words of one of the texts."""
@@ -259,31 +250,26 @@ class Terminology:
         return [*found.values()]
 
     async def members_about(self, codes: Collection[str]) -> dict[str, list[RefsetMember]]:
-        """The active members of other than association reference sets that refer to each of the
-        components."""
+        """The active members that refer to each of the components, without associations."""
         return {code: members_of(reply) async for code, reply in self.told("ABOUT M", codes)}
 
     # ---- reference sets
 
-    async def associations(self) -> list[Association]:
-        """Those of the day, inactive ones too."""
+    async def associations(self, with_inactive: bool = False) -> list[Association]:
         if self.associated is None:
             pages = [page async for page in self.pages("PAGE A")]
             self.associated = [Association(*row) for page in pages for row in page]
-        return self.associated
+        return [one for one in self.associated if with_inactive or one.active == "1"]
 
     async def replaced(self, codes: Collection[str]) -> list[Association]:
         """The active associations of these concepts."""
-        return [row async for _, reply in self.told("REPLACED", codes)
-                for row in rows(Association, reply)]
+        return [row async for row in self.rows("REPLACED", Association, codes)]
 
     async def replacing(self, codes: Ids) -> list[Association]:
         """The active associations of which one of the concepts is the target."""
         if len(codes) > limits.ASKED_ONE_BY_ONE:
-            return [row for row in await self.associations()
-                    if row.active == "1" and row.target in codes]
-        return [row async for _, reply in self.told("REPLACES", codes)
-                for row in rows(Association, reply)]
+            return [row for row in await self.associations() if row.target in codes]
+        return [row async for row in self.rows("REPLACES", Association, codes)]
 
     async def codes_of(self, refset: str) -> Ids:
         """The concepts that active members of a reference set refer to."""
@@ -292,8 +278,7 @@ class Terminology:
         if found or refset in ASSOCIATIONS:
             return frozenset(found)
         return frozenset(row.source for row in await self.associations()
-                         if row.refset == refset and row.active == "1"
-                         and is_id_of_concept(row.source))
+                         if row.refset == refset and is_id_of_concept(row.source))
 
     async def members(self, refset: str, with_inactive: bool) -> AsyncIterator[RefsetMember]:
         """Those of a reference set. An association's target is its one further column."""
@@ -304,20 +289,18 @@ class Terminology:
                 is_empty = False
                 yield member_of(row)
         if is_empty:
-            for one in await self.associations():
-                if one.refset == refset and (with_inactive or one.active == "1"):
+            for one in await self.associations(with_inactive):
+                if one.refset == refset:
                     yield member_of([*one])
 
     async def columns(self, counts: dict[str, int]) -> refsets.Columns:
-        """What the further fields of reference sets are called, of each that has so many."""
         self.must_have_room(len(counts))
         return await refsets.columns_of(self.view, counts, self.day)
 
     async def every_member(self, with_inactive: bool) -> AsyncIterator[RefsetMember]:
         """Those of all reference sets."""
-        for one in await self.associations():
-            if with_inactive or one.active == "1":
-                yield member_of([*one])
+        for one in await self.associations(with_inactive):
+            yield member_of([*one])
         async for page in self.pages("PAGE M"):
             for row in page:
                 if with_inactive or row[ACTIVE] == "1":

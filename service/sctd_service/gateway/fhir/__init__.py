@@ -9,8 +9,7 @@ from . import capabilities, expansion, implicit, lookup, subsumption, translatio
 from .inputs import Given
 from .parameters import OPERATIONS as TABLED
 from .parameters import Ways, ways_of
-from .request import OperationRequest
-from .versions import Edition
+from .versions import Edition, OperationRequest
 
 
 class Operation(NamedTuple):

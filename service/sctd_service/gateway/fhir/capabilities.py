@@ -7,7 +7,7 @@ from ...snomed import with_hyphens
 from . import lookup
 from .inputs import SCT
 from .parameters import ways_of
-from .request import OperationRequest
+from .versions import OperationRequest
 from .translation import ICD_10, MAPS
 from .valuesets import CONSTRAINT, FILTERS, IS
 
@@ -37,7 +37,10 @@ async def metadata(request: OperationRequest) -> Json:
         return terminology_capabilities(request)
     if mode not in (None, "full", "normative"):
         raise invalid("mode must be full, normative or terminology")
-    return capability_statement(request)
+    resources = [resource_capabilities(kind, names) for kind, names in OFFERED.items()]
+    rest = {"mode": "server", "resource": resources, "interaction": [{"code": "batch"}]}
+    return {"resourceType": "CapabilityStatement", **head(request), "instantiates": [INSTANTIATES],
+            "fhirVersion": FHIR_VERSION, "format": ["json"], "rest": [rest]}
 
 
 def head(request: OperationRequest) -> Json:
@@ -46,13 +49,6 @@ def head(request: OperationRequest) -> Json:
     return {"status": "active", "date": with_hyphens(view.latest or NO_DAY), "kind": "instance",
             "software": {"name": "sctd-gateway", "version": VERSION},
             "implementation": {"description": description}}
-
-
-def capability_statement(request: OperationRequest) -> Json:
-    resources = [resource_capabilities(kind, names) for kind, names in OFFERED.items()]
-    rest = {"mode": "server", "resource": resources, "interaction": [{"code": "batch"}]}
-    return {"resourceType": "CapabilityStatement", **head(request), "instantiates": [INSTANTIATES],
-            "fhirVersion": FHIR_VERSION, "format": ["json"], "rest": [rest]}
 
 
 def resource_capabilities(kind: str, names: tuple[str, ...]) -> Json:

@@ -17,13 +17,14 @@ from ..store import SEARCHED
 from ...snomed import Language, with_hyphens
 from .inputs import SCT, not_here
 from .outputs import ASKED, designations, parameter
-from .request import OperationRequest
+from .versions import Dated, OperationRequest
 from .valuesets import (
     Sort, ValueSet, codes_in, expression_codes, inside, refset_codes, versions_of, wanted_value_set)
-from .versions import Moment
 
 # How a designation is asked for by its language.
 LANGUAGE_SYSTEM = "urn:ietf:bcp:47"
+# Some of the members, and how many there are where that is known.
+Page = tuple[Sequence[Member], int | None]
 
 
 @dataclass(frozen=True)
@@ -49,19 +50,19 @@ async def expand(request: OperationRequest) -> Json:
     value_set = wanted_value_set(request.query)
     for system in value_set.others:
         raise not_here(system)
-    moment = request.moment(*versions_of(request.query, value_set))
+    asked = request.at(*versions_of(request.query, value_set))
     wanted = wanted_of(request, value_set.active_only)
     request.query.flag("excludeNested")  # Expansions are flat.
     if SCT in [system.partition("|")[0] for system in request.query.all("exclude-system")]:
         raise not_supported("without %s nothing would be left" % SCT)
-    found, total = await members(request, value_set, moment, wanted)
+    found, total = await members(asked, value_set, wanted)
     if wanted.count is None and len(found) > limits.PAGE_CONCEPTS:
         raise too_costly(
             "there are more than %d concepts: ask with count and offset" % limits.PAGE_CONCEPTS)
-    entries = await entries_of(request, found, moment, wanted)
+    entries = await entries_of(asked, found, wanted)
     named = {"url": value_set.url} if value_set.url else {}
     return {"resourceType": "ValueSet", **named, "status": "active",
-            "expansion": expansion(request, value_set, moment, wanted, entries, total)}
+            "expansion": expansion(asked, value_set, wanted, entries, total)}
 
 
 def wanted_of(request: OperationRequest, active_only: bool) -> Wanted:
@@ -80,91 +81,73 @@ def wanted_of(request: OperationRequest, active_only: bool) -> Wanted:
         request.language(), query.flag("includeDesignations") or bool(designations), designations)
 
 
-async def members(request: OperationRequest, value_set: ValueSet, moment: Moment,
-                  wanted: Wanted) -> tuple[Sequence[Member], int | None]:
-    """A page of the members, and how many there are where that is known."""
-    view = request.view
+async def members(asked: Dated, value_set: ValueSet, wanted: Wanted) -> Page:
+    view = asked.view
     if value_set.sort is Sort.WITHIN:
-        await request.must_have(value_set.code, moment)
+        await asked.must_have(value_set.code)
     if wanted.filter is not None:
-        return await members_with_words(request, value_set, moment, wanted, wanted.filter)
+        return await members_with_words(asked, value_set, wanted, wanted.filter)
     if value_set.sort is Sort.WITHIN:
-        found = [*await view.subtree(value_set.code, moment.day)]
-    elif value_set.sort is Sort.IN_REFSET:
-        return await members_of_refset(request, value_set.code, moment, wanted)
-    elif value_set.expression:
-        return await members_of_expression(request, value_set.expression, moment, wanted)
+        found = [*await view.subtree(value_set.code, asked.day)]
+    elif value_set.sort is Sort.IN_REFSET or value_set.expression:
+        return await members_by_code(asked, value_set, wanted)
     elif value_set.sort is not Sort.ANY:
-        found = await view.members(await codes_in(request, value_set, moment), moment.day)
+        found = await view.members(await codes_in(asked, value_set), asked.day)
     else:
         end = wanted.offset + wanted.most
-        found = await view.first_concepts(moment.day, end, wanted.active_only)
+        found = await view.first_concepts(asked.day, end, wanted.active_only)
         return found[wanted.offset : end], None
     if wanted.active_only:
         found = [member for member in found if member.is_active]
     return found[wanted.offset : wanted.offset + wanted.most], len(found)
 
 
-async def members_with_words(request: OperationRequest, value_set: ValueSet, moment: Moment,
-                             wanted: Wanted, text: str) -> tuple[Sequence[Member], int | None]:
+async def members_with_words(asked: Dated, value_set: ValueSet, wanted: Wanted, text: str) -> Page:
     """A page of those with a term that has the words of a text. How many there are isn't known
     where it has enough active ones before all are found."""
     end = wanted.offset + wanted.most
-    languages = searched_in(wanted.language, request.edition.languages)
-    among = partial(inside, request, value_set, moment=moment)
-    hits = await searched(
-        request.view, text, moment.day, languages, end if wanted.most else 0, among)
+    languages = searched_in(wanted.language, asked.edition.languages)
+    among = partial(inside, asked, value_set)
+    hits = await searched(asked.view, text, asked.day, languages, end if wanted.most else 0, among)
     found = [hit.member for hit in hits.found if hit.member.is_active or not wanted.active_only]
     return found[wanted.offset : end], len(found) if hits.are_all else None
 
 
-async def members_of_refset(request: OperationRequest, refset: str, moment: Moment,
-                            wanted: Wanted) -> tuple[Sequence[Member], int]:
-    """A page of a reference set, of whose other concepts nothing has to be known. A code that the
-    store has no concept of is told as the reference set has it."""
-    codes: Sequence[str] = await refset_codes(request, refset, moment)
-    if wanted.active_only:
-        codes = await refsets.active_codes_of(request.view, refset, moment.day)
-    return await page_of(request, codes, moment, wanted)
-
-
-async def members_of_expression(request: OperationRequest, expression: syntax.Expression,
-                                moment: Moment, wanted: Wanted) -> tuple[Sequence[Member], int]:
-    """A page of what an expression means."""
-    if wanted.active_only:
-        expression = syntax.Compound(syntax.AND, (expression, syntax.Wildcard()))
-    codes = await expression_codes(request, expression, moment)
-    return await page_of(request, codes, moment, wanted)
-
-
-async def page_of(request: OperationRequest, codes: Sequence[str], moment: Moment,
-                  wanted: Wanted) -> tuple[Sequence[Member], int]:
+async def members_by_code(asked: Dated, value_set: ValueSet, wanted: Wanted) -> Page:
+    """A page of a reference set or of what an expression means, of whose other concepts nothing has
+    to be known. A code that the store has no concept of is told as the reference set has it."""
+    codes: Sequence[str]
+    if value_set.expression:
+        parts = (value_set.expression, syntax.Wildcard())
+        expression = syntax.Compound(syntax.AND, parts) if wanted.active_only else parts[0]
+        codes = await expression_codes(asked, expression)
+    else:
+        codes = await refset_codes(asked, value_set.code)
+        if wanted.active_only:
+            codes = await refsets.active_codes_of(asked.view, value_set.code, asked.day)
     page = codes[wanted.offset : wanted.offset + wanted.most]
-    there = {one.code: one for one in await request.view.members(page, moment.day)}
+    there = {one.code: one for one in await asked.view.members(page, asked.day)}
     return [there.get(code, Member(code, True)) for code in page], len(codes)
 
 
-async def entries_of(request: OperationRequest, found: Sequence[Member], moment: Moment,
-                     wanted: Wanted) -> list[Json]:
-    """The concepts of a page, as an expansion has them. Other requests have their turn between its
-    slices."""
+async def entries_of(asked: Dated, found: Sequence[Member], wanted: Wanted) -> list[Json]:
+    """The concepts of a page. Other requests have their turn between its slices."""
     entries: list[Json] = []
     for start in range(0, len(found), limits.SLICE_CONCEPTS):
         some = found[start : start + limits.SLICE_CONCEPTS]
-        entries += await slice_of_entries(request, some, moment, wanted)
+        entries += await slice_of_entries(asked, some, wanted)
         await asyncio.sleep(0)
     return entries
 
 
-async def slice_of_entries(request: OperationRequest, found: Sequence[Member], moment: Moment,
-                           wanted: Wanted) -> list[Json]:
-    codes, view = [member.code for member in found], request.view
-    displays = await view.names(codes, moment.day, wanted.language)
+async def slice_of_entries(asked: Dated, found: Sequence[Member], wanted: Wanted) -> list[Json]:
+    codes, view = [member.code for member in found], asked.view
+    displays = await view.names(codes, asked.day, wanted.language)
     entries = [entry(member, displays[member.code]) for member in found]
     if wanted.with_designations:
-        described = await view.descriptions(codes, moment.day)
+        described = await view.descriptions(codes, asked.day)
         refsets_asked = wanted.language.every_refset
-        told = [await view.called(codes, moment.day, one) for one in refsets_asked]
+        told = [await view.called(codes, asked.day, one) for one in refsets_asked]
         for place, terms in enumerate(described):
             called = {refset: one[place] for refset, one in zip(refsets_asked, told)}
             found_terms = designations(terms, called)
@@ -174,8 +157,7 @@ async def slice_of_entries(request: OperationRequest, found: Sequence[Member], m
 
 
 def is_chosen(designation: Json, wanted: Sequence[str]) -> bool:
-    """Whether a designation is of a use or a language that is asked for, as SYSTEM|CODE or as a
-    code alone."""
+    """Whether a designation is of a use or a language that is asked for, as SYSTEM|CODE or CODE."""
     codes = ((SCT, designation["use"]["code"]), (LANGUAGE_SYSTEM, designation["language"]))
     return not wanted or any(
         token in wanted for system, code in codes for token in (code, "%s|%s" % (system, code)))
@@ -186,9 +168,9 @@ def entry(member: Member, display: str) -> Json:
     return {"system": SCT, "code": member.code, "display": display, **inactive}
 
 
-def expansion(request: OperationRequest, value_set: ValueSet, moment: Moment, wanted: Wanted,
-              entries: list[Json], total: int | None) -> Json:
-    view = request.view
+def expansion(asked: Dated, value_set: ValueSet, wanted: Wanted, entries: list[Json],
+              total: int | None) -> Json:
+    view, moment = asked.view, asked.moment
     named = " ".join(map(str, (value_set.url, view.pin, moment.day, *astuple(wanted))))
     shown = [parameter("version", valueUri="%s|%s" % (SCT, moment.version)),
              parameter("sctd-pin", valueInteger=view.pin)]
@@ -199,9 +181,9 @@ def expansion(request: OperationRequest, value_set: ValueSet, moment: Moment, wa
         "offset": {"valueInteger": wanted.offset},
         "activeOnly": {"valueBoolean": wanted.active_only},
         "includeDesignations": {"valueBoolean": wanted.with_designations},
-        "displayLanguage": {"valueString": request.query.text("displayLanguage")}}
+        "displayLanguage": {"valueString": asked.query.text("displayLanguage")}}
     shown += [
-        parameter(name, **value) for name, value in heard.items() if name in request.query.given]
+        parameter(name, **value) for name, value in heard.items() if name in asked.query.given]
     now = datetime.datetime.now(datetime.timezone.utc)
     found: Json = {
         "identifier": "urn:uuid:%s" % uuid.uuid5(uuid.NAMESPACE_URL, named),

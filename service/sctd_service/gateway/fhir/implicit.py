@@ -9,10 +9,9 @@ from ..problems import Json, Problem, invalid, not_found
 from ...snomed import is_concept_id, is_day
 from .inputs import SCT, Given
 from .parameters import Ways
-from .request import OperationRequest
-from .translation import MAPS, Asked, map_of, must_be_a_map, systems_of
+from .translation import MAPS, map_of, system_of_map
 from .valuesets import CONSTRAINT, FILTERS, IS, Sort, must_be_kept, value_set_of
-from .versions import Edition, Moment
+from .versions import Edition, Moment, OperationRequest
 
 CODE_SYSTEM, VALUE_SET, CONCEPT_MAP = "CodeSystem", "ValueSet", "ConceptMap"
 CODE_SYSTEM_ID = "sct"
@@ -36,7 +35,6 @@ OPS = {sort: op for op, sort in FILTERS.items()}
 
 
 def address_of(kind: str, name: str, edition: Edition) -> tuple[str, str]:
-    """The version and the address of the resource with this id."""
     form, _, day = name.partition(".")
     version = edition.version(day) if day else SCT
     stem, _, code = form.rpartition("-")
@@ -50,11 +48,6 @@ def address_of(kind: str, name: str, edition: Edition) -> tuple[str, str]:
     if stem and is_concept_id(code) and stem + "-" in forms:
         return version, "%s?%s%s" % (version, forms[stem + "-"], code)
     raise not_there(kind, name)
-
-
-def id_of(kind: str, form: str, code: str, day: str) -> str:
-    named = next(name for name, what in FORMS[kind].items() if what == form)
-    return "%s%s%s" % (named, code, "." + day if day else "")
 
 
 def instance(kind: str, name: str, system: str, edition: Edition) -> list[Given]:
@@ -81,46 +74,44 @@ def code_system(edition: Edition, day: str, is_latest: bool) -> Json:
 async def value_set(request: OperationRequest, address: str, version: str | None = None) -> Json:
     """The value set of an address, which has to be there."""
     found = value_set_of(address)
-    moment = request.moment(*found.versions, version)
+    asked = request.at(*found.versions, version)
     if found.sort is Sort.WITHIN:
-        await request.must_have(found.code, moment)
+        await asked.must_have(found.code)
     elif found.sort is Sort.IN_REFSET:
-        await must_be_kept(request, found.code, moment)
+        await must_be_kept(asked, found.code)
     form = found.url.partition("?")[2].removesuffix(found.code)
     include: Json = {"system": SCT}
     if found.expression:
         one = {"property": CONSTRAINT, "op": IS, "value": spelled(found.expression)}
         # (It has no id, since an expression can't be written as one.)
         return {
-            "resourceType": VALUE_SET, "url": found.url, "version": moment.version,
+            "resourceType": VALUE_SET, "url": found.url, "version": asked.moment.version,
             "name": EXPRESSION_NAME, "status": "active",
             "compose": {"include": [{**include, "filter": [one]}]}}
     if found.sort in OPS:
         include["filter"] = [{"property": "concept", "op": OPS[found.sort], "value": found.code}]
     # (That reference sets are asked for can't be said by a filter.)
     compose = {} if found.sort is Sort.ARE_REFSETS else {"compose": {"include": [include]}}
-    return {**named(VALUE_SET, found.url, form, found.code, moment), **compose}
+    return {**named(VALUE_SET, found.url, form, found.code, asked.moment), **compose}
 
 
 async def concept_map(request: OperationRequest, address: str, version: str | None = None) -> Json:
-    base, own_version, refset = map_of(address)
-    moment = request.moment(base, own_version, version)
+    versions, refset = map_of(address)
+    asked, url = request.at(*versions, version), address.partition("|")[0]
     if refset and refset not in MAPS:
-        system = systems_of(request).get(refset)
-        asked = Asked(base, (refset,), "", moment, False, None, None)
-        await must_be_a_map(request, asked, refset, system)
-        await must_be_kept(request, refset, moment)
-    url = address.partition("|")[0]
+        await system_of_map(asked, url, refset)
+        await must_be_kept(asked, refset)
     form = url.partition("?")[2].removesuffix(refset)
     targets = {} if refset and refset not in MAPS else {"targetUri": SCT + "?fhir_vs"}
     return {
-        **named(CONCEPT_MAP, url, form, refset, moment), "sourceUri": SCT + "?fhir_vs", **targets}
+        **named(CONCEPT_MAP, url, form, refset, asked.moment), "sourceUri": SCT + "?fhir_vs",
+        **targets}
 
 
 def named(kind: str, url: str, form: str, code: str, moment: Moment) -> Json:
     """The beginning of a resource with this address."""
-    is_of_version = "/version/" in url
-    name = id_of(kind, form, code, moment.day if is_of_version else "")
+    stem = next(name for name, what in FORMS[kind].items() if what == form)
+    name = stem + code + ("." + moment.day if "/version/" in url else "")
     words = name.replace("-", "_").replace(".", "_")
     return {
         "resourceType": kind, "id": name, "url": url, "version": moment.version,

@@ -16,8 +16,6 @@ Given = tuple[str, Any]
 
 
 class Coding(NamedTuple):
-    """A code as it was recorded."""
-
     system: str
     code: str
     version: str | None
@@ -147,7 +145,6 @@ def not_here(system: str) -> Problem:
 
 
 def coding_of(value: Any) -> Coding:
-    """A coding of FHIR."""
     parts = ("system", "code", "version", "display")
     if not isinstance(value, dict) or not all(
             isinstance(value[part], str) and value[part] for part in parts if part in value):
@@ -163,10 +160,8 @@ def not_json() -> Problem:
 
 
 def parsed(body: bytes) -> Any:
-    """What a body has, in JSON."""
     try:
-        resource = json.loads(
-            body.decode(), object_pairs_hook=object_of, parse_constant=no_number)
+        resource = json.loads(body.decode(), object_pairs_hook=object_of, parse_constant=no_number)
         # Half a character, which JSON can write, is no text.
         json.dumps(resource, ensure_ascii=False).encode()
     except (ValueError, TypeError, RecursionError):

@@ -7,7 +7,7 @@ from ..problems import Json
 from ...snomed import DEFINED, IS_A, Facts, is_concept_id
 from .inputs import CodeNames
 from .outputs import concrete, dated, designations, parameter, parameters
-from .request import OperationRequest
+from .versions import OperationRequest
 
 ALL, CHILD, DESIGNATION = "*", "child", "designation"
 INACTIVATION, NORMAL_FORM, TERSE = "inactivationIndicator", "normalForm", "normalFormTerse"
@@ -25,37 +25,40 @@ Property = tuple[str, dict[str, Any]]
 async def lookup(request: OperationRequest) -> Json:
     query = request.query
     coding = query.coding(CodeNames())
-    moment = request.moment(coding.version, query.text("version"))
+    asked = request.at(coding.version, query.text("version"))
     language, wanted = request.language(), set(query.all("property"))
     for name in sorted(wanted.difference(PROPERTIES, ALWAYS)):
         if not is_concept_id(name):
             query.pass_over("no concept has the property %.60r here" % name)
-    facts = await request.facts(coding.code, moment, language, is_wanted(INACTIVATION, wanted))
-    asks = wanted & {CHILD, ALL}
-    children = await request.view.children(coding.code, moment.day) if asks else []
+    facts = await asked.facts(coding.code, language, is_wanted(INACTIVATION, wanted))
+    has_children = wanted & {CHILD, ALL}
+    children = await request.view.children(coding.code, asked.day) if has_children else []
     parts = [
-        parameter("name", valueString="SNOMED CT"), *dated(moment),
+        parameter("name", valueString="SNOMED CT"), *dated(asked.moment),
         parameter("display", valueString=facts.display(language))]
     if is_wanted(DESIGNATION, wanted):
         found = designations(facts.descriptions, facts.called)
         parts += [designation_parts(one) for one in found]
     said = properties(facts, children, wanted)
     groups = groups_of(facts) if wanted & {ROLE_GROUP, ALL} else []
-    codes = coded(sum(groups, said)) if wanted else []
+    coded = sum(groups, said) if wanted else []
+    codes = [value["valueCode"] for _, value in coded if "valueCode" in value]
     if NORMAL_FORM in wanted and facts.parents:
         codes += [code for row in facts.relationships for code in (row.type, row.target)]
         codes += [row.type for row in facts.values]
-    names = await request.view.names(codes, moment.day, language)
+    names = await request.view.names(codes, asked.day, language)
     if NORMAL_FORM in wanted and facts.parents:
         said.append((NORMAL_FORM, {"valueString": normal_form(facts, names)}))
     parts += [parameter("property", part=property_parts(*one, names)) for one in said]
-    parts += [parameter("property", part=group_parts(group, names)) for group in groups]
+    for group in groups:
+        own = [parameter("subproperty", part=property_parts(*one, names)) for one in group]
+        named = parameter("code", valueCode=ROLE_GROUP)
+        parts.append(parameter("property", part=[named, *own]))
     return parameters(parts)
 
 
 def is_wanted(name: str, wanted: set[str]) -> bool:
-    """Whether a property is asked for; where none is named, all are that cost no further round
-    trip."""
+    """Whether a property is asked for; all are where none is named, but what costs a round trip."""
     return not wanted or ALL in wanted or name in wanted
 
 
@@ -93,18 +96,12 @@ def attributes(facts: Facts, group: str | None = None) -> Iterator[Property]:
 
 
 def groups_of(facts: Facts) -> list[list[Property]]:
-    """The attributes of each role group."""
     numbers = {row.group for row in facts.attributes} - {NO_GROUP}
     return [once(attributes(facts, number)) for number in sorted(numbers, key=int)]
 
 
 def once(found: Iterable[Property]) -> list[Property]:
     return [*{(code, str(value)): (code, value) for code, value in found}.values()]
-
-
-def coded(found: Iterable[Property]) -> list[str]:
-    """The codes that are values."""
-    return [value["valueCode"] for _, value in found if "valueCode" in value]
 
 
 def property_parts(code: str, value: dict[str, Any], names: Mapping[str, str]) -> list[Json]:
@@ -115,14 +112,8 @@ def property_parts(code: str, value: dict[str, Any], names: Mapping[str, str]) -
     return [parameter("code", valueCode=code), parameter("value", **value), *described]
 
 
-def group_parts(group: Iterable[Property], names: Mapping[str, str]) -> list[Json]:
-    parts = [parameter("subproperty", part=property_parts(*one, names)) for one in group]
-    return [parameter("code", valueCode=ROLE_GROUP), *parts]
-
-
 def normal_form(facts: Facts, names: Mapping[str, str]) -> str:
-    """The concept's inferred definition as an expression with these names as terms, its role groups
-    apart."""
+    """The concept's inferred definition as an expression with these terms, its groups apart."""
     def term(code: str) -> str:
         name = names.get(code, code)
         return "%s|%s|" % (code, name) if name != code and "|" not in name else code

@@ -3,7 +3,7 @@
 from ..problems import Json
 from .inputs import CodeNames
 from .outputs import dated, parameter, parameters
-from .request import OperationRequest
+from .versions import OperationRequest
 
 # By whether the first code is the second or above it, and whether it is the second or below it. Two
 # codes that are both, as on a cycle of a faulty release, are kinds of each other.
@@ -15,10 +15,10 @@ async def subsumes(request: OperationRequest) -> Json:
     query, view = request.query, request.view
     first, second = (
         query.coding(CodeNames(code="code" + letter, coding="coding" + letter)) for letter in "AB")
-    moment = request.moment(first.version, second.version, query.text("version"))
+    asked = request.at(first.version, second.version, query.text("version"))
     for coding in (first, second):
-        await request.must_have(coding.code, moment)
-    is_above = await view.is_within(second.code, first.code, moment.day)
-    is_below = await view.is_within(first.code, second.code, moment.day)
+        await asked.must_have(coding.code)
+    is_above = await view.is_within(second.code, first.code, asked.day)
+    is_below = await view.is_within(first.code, second.code, asked.day)
     outcome = OUTCOMES[is_above, is_below]
-    return parameters([parameter("outcome", valueCode=outcome), *dated(moment)])
+    return parameters([parameter("outcome", valueCode=outcome), *dated(asked.moment)])

@@ -5,9 +5,8 @@ from ..problems import Json
 from ...snomed import is_concept_id, is_display
 from .inputs import SCT, CodeNames, Coding, not_here
 from .outputs import dated, parameter, parameters
-from .request import OperationRequest
+from .versions import Dated, OperationRequest
 from .valuesets import Sort, ValueSet, inside, versions_of, wanted_value_set
-from .versions import Moment
 
 # What a code isn't that is outside a value set.
 OUTSIDE = {Sort.WITHIN: "%s and isn't below it", Sort.IN_REFSET: "in the reference set %s",
@@ -39,10 +38,10 @@ async def validated(request: OperationRequest, names: CodeNames,
     for coding in codings:
         # The version of another code system's coding is none of SNOMED CT.
         is_own = coding.system == SCT
-        moment = request.moment(coding.version if is_own else None, *versions)
+        asked = request.at(coding.version if is_own else None, *versions)
         if not is_own:
             continue
-        wrong, parts = await checked(request, coding, moment, value_set)
+        wrong, parts = await checked(asked, coding, value_set)
         message = [parameter("message", valueString=wrong)] if wrong else []
         answer = parameters([parameter("result", valueBoolean=not wrong), *parts, *message])
         if not wrong:
@@ -54,19 +53,19 @@ async def validated(request: OperationRequest, names: CodeNames,
     return answer
 
 
-async def checked(request: OperationRequest, coding: Coding, moment: Moment,
+async def checked(request: Dated, coding: Coding,
                   value_set: ValueSet | None) -> tuple[str, list[Json]]:
     """What is wrong with a code, or nothing, and what there is to say of it."""
     is_lenient = any([request.query.flag(name) for name in LENIENT])
     active_only = request.query.flag("activeOnly") or value_set and value_set.active_only
     parts = [parameter("code", valueCode=coding.code), parameter("system", valueUri=SCT),
-             *dated(moment)]
+             *dated(request.moment)]
     codes = [coding.code] if is_concept_id(coding.code) else []
-    among = await inside(request, value_set, codes, moment) if value_set else set(codes)
+    among = await inside(request, value_set, codes) if value_set else set(codes)
     language = request.language()
-    facts = await request.view.facts(coding.code, moment.day, language)
+    facts = await request.view.facts(coding.code, request.day, language)
     if facts is None:
-        return "the code %.60r isn't in %s" % (coding.code, moment.version), parts
+        return "the code %.60r isn't in %s" % (coding.code, request.moment.version), parts
     wanted = {one.code for one in language.each}
     terms = [row for row in facts.descriptions if wanted.intersection(("", row.language))]
     parts += [parameter("display", valueString=facts.display(language)),

@@ -14,32 +14,20 @@ from ..ecl.parsing import parse
 from ..problems import Json, Problem, conflict, invalid, not_found, not_supported, too_costly
 from ...snomed import REFERENCE_SET, distinct, is_concept_id
 from .inputs import SCT, Query, not_here
-from .request import OperationRequest
-from .versions import Moment
+from .versions import Dated
 
-ALL, IS_A, REFSETS, REFSET = "fhir_vs", "fhir_vs=isa/", "fhir_vs=refset", "fhir_vs=refset/"
-ECL = "fhir_vs=ecl/"
 # An address with a version of SNOMED CT behind it.
 CANONICAL = re.compile(r"(.*)\|(http://snomed\.info/sct[^|]*)\Z", re.DOTALL)
 # What stands in no address: an expression that has such letters isn't encoded a second time.
 UNENCODED = re.compile(r'[\s<>"{}|^]')
-
-
-class Sort(enum.Enum):
-    """What a value set's codes have in common."""
-
-    ANY = enum.auto()
-    WITHIN = enum.auto()
-    BELOW = enum.auto()
-    ABOVE = enum.auto()
-    IN_REFSET = enum.auto()
-    ARE_REFSETS = enum.auto()
-    EXPRESSION = enum.auto()
-    LISTED = enum.auto()
-    COMPOSED = enum.auto()
-    OF_OTHERS = enum.auto()
-
-
+# What a value set's codes have in common: first that of which there are the fewest, as a rule.
+Sort = enum.IntEnum("Sort", (
+    "OF_OTHERS", "LISTED", "ABOVE", "ARE_REFSETS", "IN_REFSET", "COMPOSED", "EXPRESSION", "BELOW",
+    "WITHIN", "ANY"))
+# What stands behind the question mark of an address: a code follows a slash.
+FORMS = {"fhir_vs": Sort.ANY, "fhir_vs=refset": Sort.ARE_REFSETS, "fhir_vs=isa/": Sort.WITHIN,
+         "fhir_vs=refset/": Sort.IN_REFSET}
+ECL = "fhir_vs=ecl/"
 # The filters of a concept that a client's value set may have.
 FILTERS = {
     "is-a": Sort.WITHIN, "descendent-of": Sort.BELOW, "generalizes": Sort.ABOVE,
@@ -131,18 +119,12 @@ def system_versions(query: Query, name: str) -> list[str]:
 
 
 def value_set_of(address: str) -> ValueSet:
-    canonical = CANONICAL.match(address)
-    url, *named = canonical.groups() if canonical else (address,)
-    base, _, what = url.partition("?")
-    versions = (base, *named)
-    if not is_of_snomed(base) or not what.startswith(ALL):
+    url, what, versions = parted(address)
+    if not what.startswith("fhir_vs"):
         raise not_found("the value set %.100r isn't known: only those of %s?fhir_vs" % (url, SCT))
-    for name, sort in ((ALL, Sort.ANY), (REFSETS, Sort.ARE_REFSETS)):
-        if what == name:
-            return ValueSet(url, versions, sort)
-    for name, sort in ((IS_A, Sort.WITHIN), (REFSET, Sort.IN_REFSET)):
-        code = what.removeprefix(name)
-        if code != what and is_concept_id(code):
+    for form, sort in FORMS.items():
+        code = what.removeprefix(form)
+        if what.startswith(form) and (is_concept_id(code) if form.endswith("/") else not code):
             return ValueSet(url, versions, sort, code)
     if what.startswith(ECL):
         text = what.removeprefix(ECL)
@@ -152,17 +134,20 @@ def value_set_of(address: str) -> ValueSet:
 
 
 def meant_by(text: str, url: str, versions: tuple[str, ...]) -> ValueSet:
-    """The value set of what an expression means."""
     return ValueSet(url, versions, Sort.EXPRESSION, expression=parse(text))
 
 
-def is_of_snomed(base: str) -> bool:
-    """Whether an address is that of SNOMED CT or of a version of it."""
-    return base == SCT or base.startswith(SCT + "/")
+def parted(address: str) -> tuple[str, str, tuple[str, ...]]:
+    """The address of something of SNOMED CT without the version behind it, what it asks for, and
+    the versions that it names. Any other address asks for nothing."""
+    canonical = CANONICAL.match(address)
+    url, *named = canonical.groups() if canonical else (address,)
+    base, _, what = url.partition("?")
+    is_of_snomed = base == SCT or base.startswith(SCT + "/")
+    return url, what if is_of_snomed else "", (base, *named)
 
 
 def composed(resource: Any, sent: Sent) -> ValueSet:
-    """A value set that a client defines."""
     compose = resource.get("compose") if isinstance(resource, dict) else None
     if not isinstance(compose, dict) or resource.get("resourceType") != "ValueSet":
         raise invalid("valueSet has to be a resource ValueSet with compose")
@@ -236,7 +221,11 @@ def filter_of(each: Json, versions: tuple[str, ...]) -> ValueSet:
     if named == "concept" and op in FILTERS:
         return ValueSet("", versions, FILTERS[op], code_of(value))
     if is_concept_id(named) and op == IS:
-        return having(named, code_of(value), versions)
+        wanted = syntax.Attribute(
+            syntax.SOME, False, syntax.ConceptReference(named), syntax.EQUAL,
+            syntax.ConceptReference(code_of(value)))
+        having = syntax.Refined(syntax.Wildcard(), wanted)
+        return ValueSet("", versions, Sort.EXPRESSION, expression=having)
     raise not_supported(
         "of filters those of concept with %s are answered, and with = of %s and of attributes" % (
             ", ".join(FILTERS), CONSTRAINT))
@@ -246,15 +235,6 @@ def code_of(value: str) -> str:
     if not is_concept_id(value):
         raise invalid("the value of a filter has to be a concept's code")
     return value
-
-
-def having(attribute: str, value: str, versions: tuple[str, ...]) -> ValueSet:
-    """The concepts with an attribute that has this value."""
-    wanted = syntax.Attribute(
-        syntax.SOME, False, syntax.ConceptReference(attribute), syntax.EQUAL,
-        syntax.ConceptReference(value))
-    return ValueSet("", versions, Sort.EXPRESSION,
-                    expression=syntax.Refined(syntax.Wildcard(), wanted))
 
 
 def joined(filters: list[ValueSet]) -> list[ValueSet]:
@@ -267,7 +247,6 @@ def joined(filters: list[ValueSet]) -> list[ValueSet]:
 
 
 def expression_of(value_set: ValueSet) -> syntax.Expression:
-    """What a filter is as an expression."""
     if value_set.expression:
         return value_set.expression
     concept = syntax.ConceptReference(value_set.code)
@@ -276,18 +255,17 @@ def expression_of(value_set: ValueSet) -> syntax.Expression:
     return syntax.Related(OPERATORS[value_set.sort], concept)
 
 
-async def inside(request: OperationRequest, value_set: ValueSet, codes: Collection[str],
-                 moment: Moment) -> set[str]:
+async def inside(request: Dated, value_set: ValueSet, codes: Collection[str]) -> set[str]:
     """Those of the concepts that are in the value set, which has to be there."""
-    view, day, sort, asked = request.view, moment.day, value_set.sort, list(codes)
+    view, day, sort, asked = request.view, request.day, value_set.sort, list(codes)
     if sort in (Sort.WITHIN, Sort.BELOW):
-        await request.must_have(value_set.code, moment)
+        await request.must_have(value_set.code)
         within = await view.codes_within(asked, value_set.code, day)
         return within - {value_set.code} if sort is Sort.BELOW else within
     if sort is Sort.IN_REFSET:
         found = await refsets.those_in(view, value_set.code, asked, day)
         if not found:
-            await must_be_kept(request, value_set.code, moment)
+            await must_be_kept(request, value_set.code)
         return found
     if sort is Sort.ARE_REFSETS:
         found = await refsets.which_of(view, asked, day)
@@ -297,96 +275,84 @@ async def inside(request: OperationRequest, value_set: ValueSet, codes: Collecti
     if sort is Sort.COMPOSED:
         found = set()
         for parts in value_set.included:
-            found |= await inside_all(request, parts, asked, moment)
-        for parts in value_set.excluded:
-            found -= await inside_all(request, parts, found, moment)
-        return found
+            found |= await inside_all(request, parts, asked)
+        return await without_excluded(request, value_set, found)
     if value_set.expression:
-        await must_keep_all(request, value_set.expression, moment)
+        await must_keep_all(request, value_set.expression)
         return await ecl.those_in(view, day, value_set.expression, asked)
     if sort is Sort.ANY:
         return set(asked)
     if sort is Sort.OF_OTHERS:
         return set()
-    return set(asked).intersection(await codes_in(request, value_set, moment))
+    return set(asked).intersection(await codes_in(request, value_set))
 
 
-async def inside_all(request: OperationRequest, parts: Sequence[ValueSet], codes: Collection[str],
-                     moment: Moment) -> set[str]:
+async def inside_all(request: Dated, parts: Sequence[ValueSet], codes: Collection[str]) -> set[str]:
     found = set(codes)
     for part in parts:
-        found = await inside(request, part, found, moment)
+        found = await inside(request, part, found)
     return found
 
 
-async def codes_in(request: OperationRequest, value_set: ValueSet, moment: Moment) -> Sequence[str]:
+async def without_excluded(request: Dated, value_set: ValueSet, found: set[str]) -> set[str]:
+    for parts in value_set.excluded:
+        found -= await inside_all(request, parts, found)
+    return found
+
+
+async def codes_in(request: Dated, value_set: ValueSet) -> Sequence[str]:
     """The codes of a value set. Some may not be there on that day."""
-    view, day, sort, code = request.view, moment.day, value_set.sort, value_set.code
+    view, day, sort, code = request.view, request.day, value_set.sort, value_set.code
     if sort in (Sort.LISTED, Sort.OF_OTHERS):
         return value_set.listed
     if sort is Sort.IN_REFSET:
-        return await refset_codes(request, code, moment)
+        return await refset_codes(request, code)
     if value_set.expression:
-        return await expression_codes(request, value_set.expression, moment)
+        return await expression_codes(request, value_set.expression)
     if sort is Sort.ARE_REFSETS:
-        return await refsets_there(request, moment)
+        if not (there := await refsets.with_members(view, day)):
+            raise no_refsets()
+        return there
     if sort is Sort.COMPOSED:
         found = set[str]()
         for parts in value_set.included:
             # The codes of a part that has the fewest, as a rule, that are in the others.
-            first, *others = sorted(parts, key=lambda part: SMALLEST_FIRST.index(part.sort))
-            codes = await codes_in(request, first, moment)
-            found |= await inside_all(request, others, codes, moment)
-        for parts in value_set.excluded:
-            found -= await inside_all(request, parts, found, moment)
-        return sorted(found, key=int)
+            first, *others = sorted(parts, key=lambda part: part.sort)
+            codes = await codes_in(request, first)
+            found |= await inside_all(request, others, codes)
+        return sorted(await without_excluded(request, value_set, found), key=int)
     if sort is Sort.ANY:
         raise too_costly("all of SNOMED CT is listed page by page, and not as a part of a set")
-    await request.must_have(code, moment)
+    await request.must_have(code)
     if sort is Sort.ABOVE:
         return [code, *(await view.ancestors([code], day))[0]]
     within = [member.code for member in await view.subtree(code, day)]
     return [one for one in within if one != code] if sort is Sort.BELOW else within
 
 
-SMALLEST_FIRST = (
-    Sort.OF_OTHERS, Sort.LISTED, Sort.ABOVE, Sort.ARE_REFSETS, Sort.IN_REFSET, Sort.COMPOSED,
-    Sort.EXPRESSION, Sort.BELOW, Sort.WITHIN, Sort.ANY)
-
-
-async def refset_codes(request: OperationRequest, refset: str, moment: Moment) -> Sequence[str]:
-    codes = await refsets.codes_of(request.view, refset, moment.day)
+async def refset_codes(request: Dated, refset: str) -> Sequence[str]:
+    codes = await refsets.codes_of(request.view, refset, request.day)
     if not codes:
-        await must_be_kept(request, refset, moment)
+        await must_be_kept(request, refset)
     return codes
 
 
-async def must_be_kept(request: OperationRequest, refset: str, moment: Moment) -> None:
-    """Refuses a reference set of which the store has no member of any day: it isn't known to be
-    empty."""
+async def must_be_kept(request: Dated, refset: str) -> None:
+    """Refuses a reference set without a member of any day, which isn't known to be empty."""
     if not await refsets.was_kept(request.view, refset):
-        await request.must_have(refset, moment)
+        await request.must_have(refset)
         raise not_supported("the store has no members of the reference set %s" % refset)
 
 
-async def expression_codes(request: OperationRequest, expression: syntax.Expression,
-                           moment: Moment) -> Sequence[str]:
-    await must_keep_all(request, expression, moment)
-    return await ecl.codes_of(request.view, moment.day, expression)
+async def expression_codes(request: Dated, expression: syntax.Expression) -> Sequence[str]:
+    await must_keep_all(request, expression)
+    return await ecl.codes_of(request.view, request.day, expression)
 
 
-async def must_keep_all(request: OperationRequest, expression: syntax.Expression,
-                        moment: Moment) -> None:
+async def must_keep_all(request: Dated, expression: syntax.Expression) -> None:
     """Refuses an expression that names a reference set of which the store has no member."""
     for refset in distinct(syntax.named_refsets(expression)):
-        await must_be_kept(request, refset, moment)
-
-
-async def refsets_there(request: OperationRequest, moment: Moment) -> list[str]:
-    found = await refsets.with_members(request.view, moment.day)
-    if not found:
-        raise no_refsets()
-    return found
+        await must_be_kept(request, refset)
 
 
 def no_refsets() -> Problem:

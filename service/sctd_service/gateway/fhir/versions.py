@@ -1,4 +1,4 @@
-"""Which day an answer is of.
+"""What one operation is asked, of which state of the store, and which day its answer is of.
 
 A version of SNOMED CT is `http://snomed.info/sct/EDITION/version/YYYYMMDD`. The day that is asked
 for is that of the version, a release's or not, or the parameter `date`; with neither it is the
@@ -9,13 +9,15 @@ the store, one after the latest under the name of a version, and days of two rel
 
 import re
 from collections.abc import Iterable, Mapping
+from dataclasses import dataclass
 from types import MappingProxyType
 from typing import NamedTuple
 
-from ..problems import conflict, invalid, not_found
-from ...snomed import is_day
+from ..languages import language_of
+from ..problems import Problem, conflict, invalid, not_found
+from ...snomed import Facts, Language, is_day
 from ..store import View
-from .inputs import SCT
+from .inputs import SCT, Query
 
 VERSION = re.compile(r"http://snomed\.info/sct(?:/([0-9]+)(?:/version/([0-9]+))?)?\Z", re.ASCII)
 # A date of FHIR that has a day, with or without a time. The last second of a minute may be a 61st.
@@ -91,3 +93,51 @@ def day_of_record(date: str) -> str:
         raise invalid(
             "date must be a day of the calendar as YYYY-MM-DD, since an answer is of one day")
     return day
+
+
+@dataclass
+class OperationRequest:
+    """An operation's parameters, the store as the request sees it, and the store's edition."""
+
+    edition: Edition
+    view: View
+    query: Query
+
+    def at(self, *versions: str | None) -> "Dated":
+        """The request with its moment; `date` is that of the record where it is taken."""
+        named = [*versions, *self.query.canonical]
+        moment = self.edition.moment(self.view, named, self.query.text("date"))
+        return Dated(self.edition, self.view, self.query, moment)
+
+    def language(self) -> Language:
+        """The language of `displayLanguage`, which HAPI calls `language`, or those of the house
+        where none is given."""
+        tag = self.query.text("displayLanguage") or self.query.text("language")
+        house = self.edition.languages
+        return Language("", house) if tag is None else language_of(tag, house)
+
+
+@dataclass
+class Dated(OperationRequest):
+    """A request whose answer is of a moment."""
+
+    moment: Moment
+
+    @property
+    def day(self) -> str:
+        return self.moment.day
+
+    async def facts(self, code: str, language: Language, with_members: bool) -> Facts:
+        """What is said of a code that has to be there."""
+        found = await self.view.facts(code, self.day, language, with_members)
+        if found is None:
+            raise self.not_there(code)
+        return found
+
+    async def must_have(self, code: str) -> None:
+        if not await self.view.has(code, self.day):
+            raise self.not_there(code)
+
+    def not_there(self, code: str) -> Problem:
+        why = "; expressions aren't read" if ":" in code else ""
+        return not_found("the code %.60r isn't in %s%s" % (code, self.moment.version, why))
