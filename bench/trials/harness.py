@@ -27,6 +27,7 @@ from needs import MODULES, python_with  # noqa: E402
 
 # Three small releases, whose rows the guide shows.
 RELEASES = TOP / "docs" / "releases"
+SMALL_RELEASES = [RELEASES / name for name in ("r1", "r2", "r3")]
 HUB = "service/sctd-hub"
 # The status of a script that can't be run on this machine.
 NOT_RUN = 3
@@ -174,9 +175,10 @@ class Place:
         place.program.chmod(0o755)
         return place
 
-    def link_release(self, name: str) -> None:
-        """Puts one of the small releases beside those that are made."""
-        self.releases.joinpath(name).symlink_to(RELEASES / name)
+    def link_releases(self, *names: str) -> None:
+        """Puts these small releases, or all, beside those that are made."""
+        for name in names or os.listdir(RELEASES):
+            self.releases.joinpath(name).symlink_to(RELEASES / name)
 
     def contents(self) -> dict[str, bytes | None]:
         """The bytes of each file by its path, and none of what is something else."""
@@ -229,7 +231,7 @@ class Place:
     def small_store(self, layout: int = 2) -> Path:
         """A store with the three releases of the guide, 6, 4 and 2 new rows in a segment each."""
         store = self.make_store(layout=layout)
-        self.import_all(store, [RELEASES / name for name in ("r1", "r2", "r3")])
+        self.import_all(store, SMALL_RELEASES)
         return store
 
     def status(self, store: Path) -> str:

@@ -183,8 +183,7 @@ def test_followers_that_are_begun_again(place: Place) -> None:
     """After each import, in the middle of one, and while imports are made."""
     store, many = place.make_store(), [concept(number) for number in range(MANY_ROWS)]
     write_release(place.releases / "many", {"C": many})
-    for name in ("r1", "r2", "r3"):
-        place.link_release(name)
+    place.link_releases()
     path, journal = place.path("file"), place.path("file-journal")
     with Hub(place, store, releases=place.releases, asks=True) as hub:
         client = hub.client()
@@ -206,7 +205,7 @@ def test_followers_that_are_begun_again(place: Place) -> None:
 
 def test_followers_that_stay(place: Place, store: Path) -> None:
     """One is told of imports, and another one that is stopped has what was taken by then."""
-    place.link_release("r3")
+    place.link_releases("r3")
     with Hub(place, store, releases=place.releases, asks=True) as hub:
         staying = Script(place, FOLLOW, hub.questions, place.path("file"), "--stay")
         told = [staying.output.readline().split()[:3] for _ in range(2)]

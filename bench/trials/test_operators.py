@@ -115,8 +115,7 @@ def checked_is_imported(place: Place, store: Path, name: str, wanted: str) -> No
 @pytest.mark.parametrize("layout", (2, 3))
 def test_checks(place: Place, layout: int) -> None:
     """What CHECK answers IMPORT answers next, and CHECK leaves the store as it is."""
-    for name in ("r1", "r2", "r3"):
-        place.link_release(name)
+    place.link_releases()
     write_faulty(place)
     store = place.make_store(layout=layout)
     for name, wanted in (
@@ -512,7 +511,7 @@ def test_the_rest(place: Place) -> None:
 def test_damage(place: Place, layout: int, meets: str) -> None:
     """Once a line has met damage under a served store, nothing is confirmed until the store is
     opened again."""
-    place.link_release("r1")
+    place.link_releases("r1")
     new = write_release(place.releases / "new", {"C": [concept(1, DATE)]}, DATE)
     store = place.small_store(layout)
     before, digest = store.read_bytes(), place.digest(store)
