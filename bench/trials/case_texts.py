@@ -81,7 +81,6 @@ def reply(text: str) -> str:
 
 
 def unquoted(line: Line, text: str) -> bytes:
-    """The bytes of a text in quotes."""
     if len(text) < 2 or text[0] + text[-1] != '""':
         raise Fault(line.number, "a text in quotes is wanted")
 
@@ -134,7 +133,6 @@ def write_release(folder: Path, files: dict[str, bytes]) -> None:
 
 
 def blocks_of(text: str) -> Iterator[Block]:
-    """The cases, parts and releases of a file."""
     block: Optional[Block] = None
     for number, written in enumerate(text.split("\n"), 1):
         word, _, rest = written.partition(" ")
@@ -157,7 +155,6 @@ def files_of_cases() -> list[Path]:
 
 
 def names_of_cases() -> list[str]:
-    """The names of the cases in all files."""
     texts = (path.read_text(encoding="utf-8") for path in files_of_cases())
     return [block.name for text in texts for block in blocks_of(text) if block.kind == "case"]
 
@@ -196,7 +193,6 @@ class File:
                 yield from line.rest.split(" ")
 
     def part(self, line: Line) -> list[Line]:
-        """The lines of the part that a line asks for."""
         found = self.parts.get(line.rest)
         if found is None:
             raise Fault(line.number, "there is no part of this name")
@@ -204,7 +200,6 @@ class File:
         return found.lines
 
     def check_parts(self) -> None:
-        """Whether some case asked for each part."""
         for name, block in self.parts.items():
             if name not in self.asked:
                 raise Fault(block.number, "no case asks for the part")

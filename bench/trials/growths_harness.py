@@ -6,9 +6,9 @@ import os
 import threading
 from concurrent.futures import ThreadPoolExecutor
 from pathlib import Path
-from typing import Callable, Iterator, NamedTuple, Optional, Sequence
+from typing import Callable, NamedTuple, Optional, Sequence
 
-from harness import LAST_WORDS, Place, Ran, Wrong
+from harness import Place, Ran, Wrong
 from moments import compiled
 
 # How many runs go on at a time, and how much of what one wrote is told.
@@ -31,16 +31,6 @@ def ways_to_be_refused(store: str, *others: str) -> list[tuple[str, str]]:
     That is before its words are a task; for what is done with the store; or as a file is opened."""
     ways = [("", OUT_OF_MEMORY), (OUT_OF_MEMORY, f"sctd: {store}: memory ran out\n")]
     return ways + [(DISK_FAULT, f"sctd: {name}: out of memory\n") for name in (store, *others)]
-
-
-def replies_in(output: str) -> Iterator[list[str]]:
-    """The lines of each reply."""
-    reply: list[str] = []
-    for line in output.split("\n")[:-1]:
-        reply.append(line)
-        if line.split(" ")[0] in LAST_WORDS:
-            yield reply
-            reply = []
 
 
 def told(ran: Ran) -> str:

@@ -9,9 +9,9 @@ from typing import Iterable, NamedTuple, Optional, Sequence
 
 import soak
 from case_texts import FOLDER
-from growths_harness import (ALL_BEHIND, ALONE, OUT_OF_MEMORY, Program, Refusals, replies_in, told,
-                             try_each, ways_to_be_refused)
-from harness import RELEASES, Place, Ran, Wrong
+from growths_harness import (ALL_BEHIND, ALONE, OUT_OF_MEMORY, Program, Refusals, told, try_each,
+                             ways_to_be_refused)
+from harness import RELEASES, Place, Ran, Wrong, replies_in
 from soak_model import KINDS, SUBJECTS, File, Model, Reply
 
 import make_release as rf2  # soak.py looks for it.
@@ -108,15 +108,12 @@ class Runs:
 
     def __init__(self, program: Program, folder: Path, served: Served) -> None:
         self.program, self.folder, self.served = program, folder, served
-        self.never = {line for line in served.lines if self.is_never_refused(line)}
+        self.never = {line for line in served.lines if NEVER.match(line)
+                      or Model({}).reply(line)[-1].startswith(NONE_READ)}
         self.untouched = served.store.read_bytes()
         # The stores that were looked at, with what they have to hold.
         self.looked_at: set[tuple[bytes, str, str]] = set()
         self.outcomes: dict[int, list[Outcome]] = {ALONE: [], IN_A_ROW: [], ALL_BEHIND: []}
-
-    def is_never_refused(self, line: str) -> bool:
-        said = Model({}).reply(line)[-1]
-        return bool(NEVER.match(line)) or said.startswith(NONE_READ)
 
     def model(self) -> Model:
         """The model of the store that a run begins with."""
@@ -128,7 +125,6 @@ class Runs:
 
     def serve(self, folder: Path, lines: Sequence[str],
               refusals: Optional[Refusals] = None) -> tuple[Ran, bool]:
-        """Serves lines from the store in a folder."""
         words = ["serve", "--store", "store", "--releases", str(self.served.releases)]
         given = "".join(line + "\n" for line in lines)
         return self.program.run(words, folder, given, refusals)
@@ -152,7 +148,7 @@ class Runs:
         folder.mkdir(exist_ok=True)
         shutil.copyfile(self.served.store, folder / "store")
         ran, was_refused = self.serve(folder, lines, refusals)
-        replies = list(replies_in(ran.output))
+        replies = replies_in(ran.output)
         model = self.model()
         if was_refused and ran.status == 1 and ran[1:] in ways_to_be_refused("store"):
             if (folder / "store").read_bytes() != self.untouched:
@@ -175,7 +171,7 @@ class Runs:
             return
         lines = ["0 STATUS"] + ["0 PAGE %s 99991231 - 1000" % kind for kind in KINDS]
         ran, _ = self.serve(folder, lines)
-        if list(replies_in(ran.output)) != [model.reply(line) for line in lines]:
+        if replies_in(ran.output) != [model.reply(line) for line in lines]:
             raise Wrong("another store afterwards")
         self.looked_at.add(seen)
 
@@ -304,7 +300,6 @@ def runs_of_script(program: Program, folder: Path, releases: Path,
 
 
 def runs_of_session(program: Program, folder: Path, count: int, seed: int) -> list[Runs]:
-    """The runs of random lines."""
     session = Session(program, folder, count, seed)
     made = session.made.releases
     return [Runs(program, folder, Served(session.lines, Path(made.folder), made.files,

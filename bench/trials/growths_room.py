@@ -118,7 +118,6 @@ class Rooms:
         raise Wrong(f"{line!r}: refused {TRIES} times")
 
     def serve(self) -> None:
-        """Asks all lines of one server."""
         place = Place(self.program.program, self.folder)
         place.done("init", "--store", STORE)
         store, room = self.folder / STORE, Room(self.folder / "room")

@@ -4,9 +4,9 @@ from collections import Counter
 from pathlib import Path
 from typing import Mapping, NamedTuple, Optional
 
-from growths_harness import (ALL_BEHIND, DISK_FAULT, OUT_OF_MEMORY, Program, Refusals, replies_in,
-                             told, try_each, ways_to_be_refused)
-from harness import Place, Ran, Wrong
+from growths_harness import (ALL_BEHIND, DISK_FAULT, OUT_OF_MEMORY, Program, Refusals, told,
+                             try_each, ways_to_be_refused)
+from harness import Place, Ran, Wrong, replies_in
 
 # The files in a folder, by their names.
 Files = Mapping[str, bytes]
@@ -73,7 +73,6 @@ def put(folder: Path, files: Files) -> None:
 
 
 def stores_in(program: Program, folder: Path) -> dict[Optional[str], Files]:
-    """The files that tasks begin with."""
     made: dict[Optional[str], Files] = {None: NONE}
     here = Place(program.program, folder)
     for name, layout, releases in ((TWO, "2", 2), (TWO_OF_THREE, "3", 2), (THREE, "2", 3)):
@@ -199,7 +198,7 @@ class Demonstration(Trial):
             raise Wrong("it left %s" % sorted(left))
         if ran in ((1, "", OUT_OF_MEMORY), (1, OUT_OF_MEMORY, ""), (1, DISK_FAULT, "")):
             return
-        usual, said = list(replies_in(self.whole.output)), list(replies_in(ran.output))
+        usual, said = replies_in(self.whole.output), replies_in(ran.output)
         if (ran.status, ran.faults) != (0, "") or len(said) != len(usual):
             raise Wrong(told(ran))
         first = next(reply for reply, wanted in zip(said, usual) if reply != wanted)

@@ -15,10 +15,11 @@ import socket
 import stat
 import subprocess
 import sys
+import threading
 import time
 from collections.abc import Callable, Iterable, Mapping, Sequence
 from pathlib import Path
-from typing import NamedTuple
+from typing import NamedTuple, Self
 
 TOP = Path(__file__).resolve().parents[2]
 sys.path += [str(TOP / "bench" / "measurements"), str(TOP / "packaging")]
@@ -70,6 +71,15 @@ for line in sys.stdin.buffer:
 %s
 real.stdin.close()
 sys.exit(real.wait())
+"""
+# Stands before the program, whose calls with this first word wait until there is a file.
+WAITING = """
+import os, sys, time
+if sys.argv[1] == %r:
+    open(FOLDER + "/begun", "w").close()
+    while not os.path.exists(FOLDER + "/go on"):
+        time.sleep(0.01)
+os.execv(PROGRAM, [PROGRAM, *sys.argv[1:]])
 """
 # strace beside what it traces, which keeps its place as the trial's child.
 TRACE = ("strace", "-D", "-f", "-qq")
@@ -129,6 +139,16 @@ def tell(trial: Callable[[], object]) -> int:
     return 0
 
 
+def replies_in(output: str) -> list[list[str]]:
+    """The lines of each whole reply."""
+    replies: list[list[str]] = [[]]
+    for line in output.split("\n")[:-1]:
+        replies[-1].append(line)
+        if line.split(" ")[0] in LAST_WORDS:
+            replies.append([])
+    return replies[:-1]
+
+
 class Ran(NamedTuple):
     """How a call ended: its status, its reply, and the lines for people."""
 
@@ -179,6 +199,11 @@ class Place:
         """Puts these small releases, or all, beside those that are made."""
         for name in names or os.listdir(RELEASES):
             self.releases.joinpath(name).symlink_to(RELEASES / name)
+
+    def write_nights(self, count: int, first: int = 1) -> list[Path]:
+        """Releases n1, n2 and so on, of a new row each."""
+        return [write_release(self.releases / f"n{number + 1}", {"C": [concept(first + number)]})
+                for number in range(count)]
 
     def contents(self) -> dict[str, bytes | None]:
         """The bytes of each file by its path, and none of what is something else."""
@@ -341,7 +366,6 @@ class Server:
         return reply
 
     def line(self, asked: str) -> str:
-        """The next line of a reply."""
         self.read(sys.maxsize, time.monotonic() + SECONDS, b"\n")
         if b"\n" not in self.unread:
             raise Wrong(f"{asked!r} ends the server, or isn't answered within {SECONDS} seconds")
@@ -454,8 +478,6 @@ class Hub:
 
 
 class Client:
-    """A connection to a hub."""
-
     def __init__(self, path: Path) -> None:
         self.sent = b""
         self.connection = socket.socket(socket.AF_UNIX)
@@ -499,7 +521,6 @@ class Client:
         return self.read()
 
     def has_reply(self, seconds: float = 0.0) -> bool:
-        """Whether something more can be read."""
         return bool(select.select([self.connection], [], [], seconds)[0])
 
     def leave(self) -> None:
@@ -507,6 +528,24 @@ class Client:
         self.connection.close()
 
     close = leave
+
+
+class Threads:
+    """Threads within a `with` block: each makes its calls of `ask` until it is over."""
+
+    def __init__(self, count: int, ask: Callable[[int], None]) -> None:
+        self.is_over = False
+        self.threads = [threading.Thread(target=ask, args=(number,)) for number in range(count)]
+
+    def __enter__(self) -> Self:
+        for thread in self.threads:
+            thread.start()
+        return self
+
+    def __exit__(self, *_: object) -> None:
+        self.is_over = True
+        for thread in self.threads:
+            thread.join(SECONDS)
 
 
 def mode(path: Path) -> int:
@@ -532,7 +571,6 @@ def children(number: int) -> set[int]:
 
 
 def until(what: str, is_so: Callable[[], object], seconds: float = HUB_SECONDS) -> None:
-    """Waits until something is so."""
     end = time.monotonic() + seconds
     while not is_so():
         if time.monotonic() > end:
@@ -550,8 +588,12 @@ def write_release(folder: Path, rows: Mapping[str, Sequence[str]], date: str = D
     return folder
 
 
+def head_of(sort: str) -> str:
+    """The first line of the files of a sort."""
+    return rf2.SORTS[sort].columns.replace(" ", "\t") + "\n"
+
+
 def concept_id(number: int) -> int:
-    """The SCTID of a made concept."""
     return rf2.sctid(1_000 + number, "00")
 
 

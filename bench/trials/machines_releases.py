@@ -46,7 +46,6 @@ def description(item: int, day: str, code: str, kind: str, term: str) -> Columns
 
 
 def release(number: int) -> dict[str, list[Columns]]:
-    """The rows of a release by their kinds."""
     day, found = day_of(number), dict[str, list[Columns]]((kind, []) for kind in COLUMNS)
     codes = [TOP, *CODES]
     for place, code in enumerate(codes):
@@ -74,7 +73,6 @@ def rows_of(pin: int) -> Rows:
 
 
 def write(folder: Path, count: int) -> None:
-    """Writes so many releases, each in a folder of its own."""
     for number in range(1, count + 1):
         for kind, rows in release(number).items():
             path = folder / ("r%d" % number) / (FILES[kind] % day_of(number))

@@ -131,12 +131,8 @@ class Releases:
 
     def body(self, sort: str) -> list[object]:
         """What a row of a sort says behind its first four columns."""
-        if sort == UNKEPT:
-            return self.edition.body("R")
-        if sort == OTHER_ASSOCIATIONS:
-            return self.edition.body("A")
         if sort not in ODD_SORTS:
-            return self.edition.body(sort)
+            return self.edition.body({UNKEPT: "R", OTHER_ASSOCIATIONS: "A"}.get(sort, sort))
         count = int(sort.removeprefix("Odd"))
         texts = [self.chance.choice(ODD_TEXTS) for _ in range(count)]
         refset = self.chance.choice([*rf2.VALUE_SETS, rf2.US_ENGLISH])
@@ -144,16 +140,13 @@ class Releases:
         return [refset, referenced, *texts]
 
     def component(self, sort: str) -> rf2.Component:
-        """A new component."""
         if sort in rf2.BASIC_SORTS or sort in rf2.FURTHER_SORTS:
             return self.edition.component(sort)
-        name = self.edition.name("R") if sort == UNKEPT else self.unique()
+        name = (self.edition.name("R") if sort == UNKEPT
+                else uuid.UUID(int=self.chance.getrandbits(128)))
         made = rf2.Component(name, sort, self.body(sort))
         self.edition.made[sort].append(made)
         return made
-
-    def unique(self) -> str:
-        return str(uuid.UUID(int=self.chance.getrandbits(128)))
 
     def columns(self, sort: str) -> Columns:
         """A new component, a new version of one, or a row that was written before. A new version
@@ -258,26 +251,21 @@ class Releases:
 
 
 def fields(line: str) -> Columns:
-    """The columns of a row in a reply."""
     return line.removeprefix("ROW ").split("\t")
 
 
 class Soak:
-    """One run."""
-
     def __init__(self, program: str, seed: int, folder: str) -> None:
-        self.seed, self.place = seed, Place(Path(program), Path(folder))
+        self.place = Place(Path(program), Path(folder))
         self.chance, self.kind = random.Random(seed), "C"
         self.releases = Releases(self.chance, os.path.join(folder, "releases"))
-        self.model = Model(self.releases.files, keeps_all=self.is_of_layout_three())
+        # Some begin with a store of layout 3, and some with one of layout 1.
+        self.layout = ("2", "1", "3")[seed % 3]
+        self.model = Model(self.releases.files, keeps_all=self.layout == "3")
         self.store = os.path.join(folder, "store")
         self.serving: Optional[Server] = None
         self.took = 0.05
         self.counts = dict.fromkeys([*COUNTED, *ANSWERED], 0)
-
-    def is_of_layout_three(self) -> bool:
-        """Whether the run begins with a store of layout 3."""
-        return self.seed % 3 == 2
 
     def start(self) -> None:
         self.counts["openings"] += 1
@@ -285,7 +273,6 @@ class Soak:
 
     @property
     def served(self) -> Server:
-        """The program, once it was started."""
         assert self.serving is not None
         return self.serving
 
@@ -366,7 +353,6 @@ class Soak:
         return self.told_by(kind, SUBJECTS[kind]) if kind in SUBJECTS else self.component("C")
 
     def line(self) -> str:
-        """One line of one session."""
         chance, session = self.chance, self.chance.randrange(8)
         what = chance.random()
         if what < 0.16:
@@ -563,10 +549,7 @@ class Soak:
         return [next(iter(shown[name].values()))[1][0] for name in self.model.kinds[kind].ids]
 
     def run(self, seconds: int) -> None:
-        same("init", self.place.done("init", "--store", self.store, "--layout",
-                                     "3" if self.is_of_layout_three() else "2"), "OK")
-        if self.seed % 3 == 1:
-            self.make_layout_one()
+        self.make_store()
         self.start()
         begun = time.monotonic()
         while time.monotonic() < begun + seconds * (TIMES_LONGER if self.untried() else 1):
@@ -586,13 +569,14 @@ class Soak:
         self.everything()
         same("the end", (self.served.end(), self.served.unread), (0, b""))
 
-    def make_layout_one(self) -> None:
-        """Makes of the new store one of layout 1."""
-        with open(self.store, "r+b") as file:
-            for at in LAYOUTS_AT:
-                file.seek(at - 7)
-                if file.read(7) == b"SCTHIST":
-                    file.write(LAYOUT_ONE)
+    def make_store(self) -> None:
+        self.place.done("init", "--store", self.store, "--layout", max(self.layout, "2"))
+        if self.layout == "1":
+            with open(self.store, "r+b") as file:
+                for at in LAYOUTS_AT:
+                    file.seek(at - 7)
+                    if file.read(7) == b"SCTHIST":
+                        file.write(LAYOUT_ONE)
 
     def copy_in_layout_three(self) -> None:
         """Between two servers a copy in layout 3 takes the place of the store, perhaps after a copy

@@ -10,7 +10,7 @@ from pathlib import Path
 
 import pytest
 
-from harness import HANDING_ON, Hub, Place, Wrong, concept, concept_id, until, write_release
+from harness import HANDING_ON, Hub, Place, Wrong, concept, concept_id, until
 from test_duties import NOT_A_QUESTION
 
 # How many clients ask, how often, how many lines at once at most, of a store of so many imports.
@@ -36,7 +36,6 @@ class Model:
         self.chance, self.pin = random.Random(SEED + number), IMPORTS
 
     def next(self) -> tuple[str, list[str]]:
-        """A line, and the reply to it."""
         number = self.chance.randint(1, IMPORTS)
         return self.chance.choice((self.asked, self.asked, self.asked, self.receipt, self.pinned,
                                    self.unpinned, self.refused))(number)
@@ -65,10 +64,8 @@ class Model:
 def some_imports(place: Place) -> Path:
     """A store of some imports of a concept each, beside their releases and one more."""
     own = place.make_store()
-    for number in range(1, IMPORTS + 2):
-        release = write_release(place.releases / f"n{number}", {"C": [concept(number)]})
-        if number <= IMPORTS:
-            assert place.import_one(own, release) == f"OK {number} 1 0"
+    replies = [place.import_one(own, one) for one in place.write_nights(IMPORTS + 1)[:-1]]
+    assert replies == [f"OK {number} 1 0" for number in range(1, IMPORTS + 1)]
     return own
 
 
@@ -88,7 +85,6 @@ def ask_all(place: Place, store: Path) -> None:
 
 
 def test_own_replies(place: Place, store: Path) -> None:
-    """Each of 64 clients is told the replies to its own lines, in their order."""
     ask_all(place, store)
 
 

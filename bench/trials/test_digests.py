@@ -67,7 +67,6 @@ class Held:
         self.place.path("go on").touch()
 
     def lines(self) -> list[str]:
-        """The lines that have come to the program."""
         return self.path.read_text("utf-8").splitlines()
 
 

@@ -1,12 +1,12 @@
 """Tries what the hub does with the built program beside answering: its socket for questions, the
 rights of its sockets, its log, its merges, and the units."""
 
+import contextlib
 import grp
 import os
 import re
 import shutil
 import subprocess
-import threading
 import time
 from collections.abc import Sequence
 from pathlib import Path
@@ -14,7 +14,7 @@ from pathlib import Path
 import pytest
 
 from harness import HANDING_ON, HUB_SECONDS, RECORDER, RELEASES, TOP, TRACE, Client, Hub, Place
-from harness import Wrong, concept, concept_id, has_strace, mode, until, write_release
+from harness import Threads, Wrong, concept, concept_id, has_strace, mode, until, write_release
 from test_copies import begin_copy, slow_copies
 import make_release as rf2
 
@@ -161,7 +161,7 @@ def test_rights(place: Place, store: Path, has_group: bool, wanted: int) -> None
     # Where there is strace, these calls take their time, so that no moment is missed.
     calls = "chmod,fchmodat,chown,fchownat,lchown,listen"
     slowly = [*TRACE, "-o", "/dev/null", "-e", f"inject={calls}:delay_enter=100000"]
-    seen = Watched([place.path("hub"), place.path("questions")])
+    seen = Watched(place.path("hub"), place.path("questions"))
     with seen, Hub(place, store, *words, umask=0, before=slowly if has_strace() else [],
                    asks=True) as hub:
         assert hub.first_line == "OK ready"
@@ -171,28 +171,16 @@ def test_rights(place: Place, store: Path, has_group: bool, wanted: int) -> None
     assert seen.modes[hub.questions] <= {0o600, wanted}
 
 
-class Watched:
-    """Looks at the rights of some paths all the time."""
-
-    def __init__(self, paths: Sequence[Path]) -> None:
+class Watched(Threads):
+    def __init__(self, *paths: Path) -> None:
+        super().__init__(1, self.watch)
         self.modes: dict[Path, set[int]] = {path: set() for path in paths}
-        self.is_over = False
-        self.thread = threading.Thread(target=self.watch)
 
-    def watch(self) -> None:
+    def watch(self, _: int) -> None:
         while not self.is_over:
             for path, modes in self.modes.items():
-                try:
+                with contextlib.suppress(FileNotFoundError):
                     modes.add(mode(path))
-                except FileNotFoundError:
-                    pass
-
-    def __enter__(self) -> None:
-        self.thread.start()
-
-    def __exit__(self, *_: object) -> None:
-        self.is_over = True
-        self.thread.join()
 
 
 @pytest.mark.skipif(os.geteuid() != 0, reason="it takes root to be another user")
@@ -262,13 +250,10 @@ def test_no_reply(place: Place, store: Path) -> None:
 
 def write_nights(place: Place, count: int) -> list[str]:
     """Writes releases of a row each, and answers the lines that import them, without their ends."""
-    for number in range(1, count + 1):
-        write_release(place.releases / f"n{number}", {"C": [concept(number)]})
-    return [f"IMPORT n{number}" for number in range(1, count + 1)]
+    return [f"IMPORT {release.name}" for release in place.write_nights(count)]
 
 
 def check_of(line: str) -> str:
-    """The line that checks what another one imports."""
     return line.replace("IMPORT", "CHECK")
 
 
@@ -353,15 +338,15 @@ def store_to_merge(place: Place) -> Path:
     return own
 
 
-class Asking:
+class Asking(Threads):
     """A client that always has lines on their way, also while one that imports waits until the
     list of imports has the line of its import."""
 
     def __init__(self, hub: Hub) -> None:
-        self.client, self.is_over = hub.client(), False
-        self.thread = threading.Thread(target=self.ask)
+        super().__init__(1, self.ask)
+        self.client = hub.client()
 
-    def ask(self) -> None:
+    def ask(self, _: int) -> None:
         self.client.send(ASKED)
         while not self.is_over:
             self.client.send(ASKED)
@@ -371,13 +356,6 @@ class Asking:
     def read(self) -> None:
         for _ in range(ASKED.count(b"\n")):
             self.client.read()
-
-    def __enter__(self) -> None:
-        self.thread.start()
-
-    def __exit__(self, *_: object) -> None:
-        self.is_over = True
-        self.thread.join()
 
 
 def test_steps(place: Place) -> None:
@@ -445,7 +423,6 @@ def test_units(path: Path, lines: Sequence[str], most: int) -> None:
 
 
 def allowed_calls(lists: Sequence[str]) -> set[str]:
-    """The system calls that the unit allows."""
     def calls(name: str) -> set[str]:
         if not name.startswith("@"):
             return {name}

@@ -109,14 +109,12 @@ def test_sound_package(place: Place, package: Path) -> None:
 
 
 def without_a_row(package: Path) -> None:
-    """A row is missing."""
     path = next((package / "Snapshot").rglob("sct2_Description_*"))
     lines = path.read_bytes().splitlines(keepends=True)
     path.write_bytes(b"".join(lines[:-1]))
 
 
 def with_another_row(package: Path) -> None:
-    """A row is active that isn't."""
     path = next((package / "Snapshot").rglob("der2_cRefset_Language*"))
     path.write_bytes(path.read_bytes().replace(b"\t0\t", b"\t1\t", 1))
 
@@ -134,7 +132,6 @@ def with_an_older_row(package: Path) -> None:
 
 
 def without_a_file(package: Path) -> None:
-    """A sort of files is missing."""
     next((package / "Snapshot").rglob("*OWLExpression*")).unlink()
 
 

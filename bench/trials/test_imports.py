@@ -75,14 +75,8 @@ def told(hub: Hub) -> list[str]:
     return [str(text) for text in found]
 
 
-def nights(place: Place, count: int) -> list[Path]:
-    """Releases of a row each."""
-    return [write_release(place.releases / f"n{number}", {"C": [concept(number)]})
-            for number in range(1, count + 1)]
-
-
 def night_lines(made: Sequence[Path]) -> list[str]:
-    """The lines of such releases, which were imported in this order."""
+    """The lines of releases of a row each, which were imported in this order."""
     return [line_of(number, release, 1) for number, release in enumerate(made, 1)]
 
 
@@ -226,7 +220,7 @@ def test_end_while_a_digest_is_computed(place: Place) -> None:
 def test_kills(place: Place) -> None:
     """Whenever the hub is killed while it imports, each import that was answered has its line, and
     of the others at most the last one lacks it, which the next start tells."""
-    store, releases = place.make_store(), nights(place, 40)
+    store, releases = place.make_store(), place.write_nights(40)
     drawn, lacking = random.Random(SEED), set[int]()
     for _ in range(KILLS):
         with Hub(place, store, releases=place.releases) as hub:
@@ -245,7 +239,6 @@ def test_kills(place: Place) -> None:
 
 
 def listed_whole(store: Path) -> list[str]:
-    """The whole lines of a list that may be cut off."""
     if not list_of(store).exists():
         return []
     return list_of(store).read_text("utf-8").split("\n")[1:-1]
@@ -271,7 +264,7 @@ def take_back(place: Place, store: Path, imports: int) -> None:
 
 def test_two_take_backs(place: Place) -> None:
     """What the list has of imports that were taken back doesn't count for those that came later."""
-    store, made = place.make_store(), nights(place, 9)
+    store, made = place.make_store(), place.write_nights(9)
     imported(place, store, made[:5])
     take_back(place, store, 3)
     beyond = without_hub(place, store)
@@ -306,7 +299,7 @@ def test_two_take_backs(place: Place) -> None:
 def test_take_back_that_was_none(place: Place) -> None:
     """Where an older store was served by mistake, its line `back` can be deleted again."""
     store = place.make_store()
-    lines = imported(place, store, nights(place, 3))
+    lines = imported(place, store, place.write_nights(3))
     before = list_of(store).read_bytes()
     store.rename(place.path("whole"))
     place.copy(place.path("whole"), "store", 2)
@@ -326,8 +319,11 @@ def appended(text: bytes) -> Callable[[Path], object]:
 
 
 def instead(make: Callable[[Path], None]) -> Callable[[Path], object]:
-    """Makes something else at the path of a list."""
-    return lambda path: (path.unlink(), make(path))
+    def change(path: Path) -> None:
+        path.unlink()
+        make(path)
+
+    return change
 
 
 CHANGED = "another program has changed it: what it has now counts from the next start"
@@ -349,7 +345,7 @@ CHANGES: dict[str, tuple[Callable[[Path], object], str, list[str], bool]] = {
 def test_other_programs(place: Place, change: Callable[[Path], object], told_meanwhile: str,
                         told_at_start: list[str], is_written: bool) -> None:
     """Whatever another program does with the list, imports go on, and it is told."""
-    store, made = place.make_store(), nights(place, 4)
+    store, made = place.make_store(), place.write_nights(4)
     with Hub(place, store, releases=place.releases) as hub:
         client = hub.client()
         for release in made[:2]:
@@ -390,7 +386,7 @@ NO_IMPORTS = "back\t0\t2020-01-01T00:00:00Z\n"
 
 def test_limit_of_a_file(place: Place) -> None:
     """Where the list may not grow, imports go on, and STATUS says that their lines are missing."""
-    store, lines = place.make_store(), night_lines(nights(place, 4))
+    store, lines = place.make_store(), night_lines(place.write_nights(4))
     # (The log of the hub is a file, too, which may grow.)
     list_of(store).write_text(FIRST_LINE + NO_IMPORTS * 1_000, encoding="utf-8")
     with Hub(place, store, releases=place.releases) as hub:
@@ -414,7 +410,6 @@ def test_limit_of_a_file(place: Place) -> None:
 
 
 def limit_file(hub: Hub, most: int) -> None:
-    """From here on no file of the hub may be longer."""
     resource.prlimit(hub.process.pid, resource.RLIMIT_FSIZE, (most, resource.RLIM_INFINITY))
 
 
@@ -427,7 +422,7 @@ def on_small_disk(place: Place, small_disk: Path) -> Path:
 
 def test_full_disk(place: Place, small_disk: Path) -> None:
     """The same on a disk that is full."""
-    made, link = nights(place, 4), on_small_disk(place, small_disk)
+    made, link = place.write_nights(4), on_small_disk(place, small_disk)
     filler = small_disk / "filler"
 
     def fill() -> None:
@@ -454,7 +449,7 @@ def test_full_disk(place: Place, small_disk: Path) -> None:
 
 def test_disk_without_a_right_to_write(place: Place, small_disk: Path) -> None:
     """The same where the list's disk may only be read."""
-    made, link = nights(place, 3), on_small_disk(place, small_disk)
+    made, link = place.write_nights(3), on_small_disk(place, small_disk)
 
     def mount_again(how: str) -> None:
         subprocess.run(["mount", "-o", f"remount,{how}", str(small_disk)], check=True)
@@ -483,7 +478,7 @@ def test_disk_without_a_right_to_write(place: Place, small_disk: Path) -> None:
 
 def test_copies_have_it(place: Place) -> None:
     """A copy has the list of the imports that it has; without it there is no copy."""
-    store, made = place.make_store(), nights(place, 3)
+    store, made = place.make_store(), place.write_nights(3)
     copy, other = place.path("copy"), place.path("other")
     with Hub(place, store, releases=place.releases) as hub:
         client = hub.client()
@@ -511,7 +506,7 @@ TAKE = "examples/take_copy.py"
 def test_readers_have_it(place: Place) -> None:
     """take_copy.py puts the list of a copy in its place, too."""
     store, reader, copy = place.make_store(), place.path("reader"), place.path("copy")
-    imported(place, store, nights(place, 2))
+    imported(place, store, place.write_nights(2))
     shutil.copy(store, reader)
     list_of(reader).write_text(FIRST_LINE, encoding="utf-8")
     with Hub(place, store, asks=True) as hub:
@@ -527,7 +522,6 @@ CLIENT = "examples/client.py"
 
 
 def with_times(store: Path, *times: str) -> None:
-    """Gives the lines of a list these times."""
     given = iter(times)
     text = list_of(store).read_text("utf-8")
     list_of(store).write_text(re.sub(TIME, lambda _: next(given), text), encoding="utf-8")
@@ -575,7 +569,7 @@ done
 def test_restore(place: Place, is_lost: bool) -> None:
     """After a restore the store and its list are what they were, with the times that they had; and
     if the list is lost too, the copy's is taken, and the log has what came after it."""
-    store, made = place.make_store("terms.store"), nights(place, 6)
+    store, made = place.make_store("terms.store"), place.write_nights(6)
     days = [f"2020-10-{day:02}T01:00:00Z" for day in range(1, 6)]
     with Hub(place, store, releases=place.releases) as hub:
         for number, release in enumerate(made[:5], 1):

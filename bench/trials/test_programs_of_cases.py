@@ -80,7 +80,6 @@ def run_with(program: str, place: Place, text: str) -> tuple[int, str]:
 
 
 def case_of(before: str, question: str, answer: str, count: int = 1) -> str:
-    """A case with a question."""
     first, *more = answer.split("\n= ")
     arrow = f" -> {first}" if not more else " ->" + "".join(f"\n= {one}" for one in (first, *more))
     return f"{before}case wrong\n{question}{arrow}\nasked {count}\n"
@@ -118,6 +117,5 @@ def test_wrong_files(place: Place, program: str, text: str, line: int, why: str)
 @pytest.mark.parametrize("program, before, question, right, _", QUESTIONS)
 def test_right_answers(place: Place, program: str, before: str, question: str, right: str,
                        _: str) -> None:
-    """Each question with its right answer doesn't fail."""
     status, printed = run_with(program, place, case_of(before, question, right))
     assert "FAILED" not in printed and status == 0

@@ -159,8 +159,6 @@ def spelled(status: Optional[int], output: bytes, faults: bytes) -> str:
 
 
 class Case:
-    """A case that is being carried out in a folder of its own."""
-
     def __init__(self, place: Place, file: File) -> None:
         self.place, self.file = place, file
         self.run: Optional[Run] = None
@@ -192,7 +190,6 @@ class Case:
             run.carry_out(self.place)
 
     def command(self, line: Line) -> None:
-        """Begins a run of the program."""
         if self.layout or line.rest.split(" ")[0] != "sctd":
             raise Fault(line.number, "no word of a case of lines" if self.layout
                         else "no run of the program")
@@ -236,7 +233,6 @@ class Case:
         self.server(line)
 
     def ask(self, line: Line) -> None:
-        """Sends the lines of a part."""
         server = self.server(line)
         for asked in self.file.part(line):
             if asked.word not in (">", "<"):
@@ -286,7 +282,6 @@ class Case:
         self.store.write_bytes(data[:first] + bytes([byte]) * (end - first) + data[end:])
 
     def write_sample(self, line: Line) -> None:
-        """Copies a sample release to a folder."""
         self.finish()
         folder, _, name = line.rest.partition(" ")
         if name not in (path.name for path in SAMPLES.iterdir()):
@@ -337,7 +332,6 @@ class Cases:
         self.passed = self.failed = 0
 
     def count(self, name: str, path: Path, fault: Optional[Fault]) -> None:
-        """Counts a case, and tells its end."""
         print("FAILED %s: %s, %s" % (name, path.name, fault) if fault else "ok " + name)
         if fault and fault.told:
             print(fault.told)

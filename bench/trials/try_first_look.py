@@ -101,8 +101,6 @@ def put_program(clone: Path, program: Path) -> None:
 
 
 class Look:
-    """A first look that is running."""
-
     def __init__(self, clone: Path, *words: str, **around: str) -> None:
         self.process = subprocess.Popen(
             [str(clone / "try"), *words], cwd="/", env=os.environ | around,
@@ -151,7 +149,6 @@ def is_open(port: int) -> bool:
 
 
 def asks(told: Told) -> None:
-    """The three lines, as they are printed."""
     same("the line to ask", shell(told.line), WANTED_LINE)
     answer = shell(told.fhir)
     same("whether FHIR answers %r" % answer[:300], WANTED_FHIR in answer, True)
@@ -174,7 +171,6 @@ def by_chromium(told: Told) -> None:
 
 
 def first(clone: Path, is_built: bool) -> None:
-    """The first time."""
     begun = time.monotonic()
     with looking(clone) as look:
         told = look.told(BUILD_SECONDS if is_built else SECONDS)

@@ -43,7 +43,6 @@ def begun(program: Path, hub: Path, names: Sequence[str]) -> subprocess.Popen[by
 
 
 def ended(run: subprocess.Popen[bytes]) -> Outcome:
-    """What came of a run of tests."""
     try:
         printed = run.communicate(timeout=SECONDS)[0]
     except subprocess.TimeoutExpired:
@@ -53,7 +52,6 @@ def ended(run: subprocess.Popen[bytes]) -> Outcome:
 
 
 def types() -> Outcome:
-    """Whether the types are right."""
     if shutil.which("mypy") is None:
         return Outcome(0, 0, 1, "mypy isn't installed: the types weren't checked")
     done = subprocess.run(["mypy", "--strict", "--python-executable", sys.executable, "-p",

@@ -36,9 +36,9 @@ from urllib.parse import urlencode
 
 from machines_releases import CODES, TOP, days_of, rows_of, wording_of, write
 import harness
-from harness import Wrong, children, parser_of, same, tell, until
+from harness import Threads, Wrong, children, parser_of, same, tell, until
 from proxy_harness import (
-    HAPROXY, LOOK_SECONDS, NGINX, OPENSSL, ROOT, SECONDS, Client, Clients, Process, Proxy,
+    HAPROXY, LOOK_SECONDS, NGINX, OPENSSL, ROOT, SECONDS, Client, Process, Proxy,
     gateway_words, hub_words, need, open_folder, ready, run, stop)
 from tests.compare_releases import Comparison, Differs
 from tests.fixtures import SCT, Json, version
@@ -324,7 +324,6 @@ class Site:
         self.import_next()
 
     def back(self, machine: Machine) -> None:
-        """Starts a machine that was killed."""
         machine.start()
         machine.note(machine.imports())
 
@@ -372,7 +371,6 @@ class Site:
         return not any(one.has_had(pin or 0, since, until) for one in self.machines)
 
     def is_late(self) -> bool:
-        """Whether there is no more time."""
         return time.monotonic() > self.end_at
 
     def close(self) -> None:
@@ -381,9 +379,7 @@ class Site:
             machine.end()
 
 
-class Asking(Clients):
-    """Clients that ask, and what came of it."""
-
+class Asking(Threads):
     def __init__(self, site: Site) -> None:
         super().__init__(site.size.clients, self.ask_all)
         self.site, self.counts, self.asked, self.faults = site, Counter[str](), 0, list[str]()
@@ -512,7 +508,6 @@ def tried(site: Site) -> None:
 
 
 def run_trial(options: argparse.Namespace) -> None:
-    """The trial, in networks that nobody else has or without."""
     with open_folder() as place, closing(Site(place, options)) as site:
         site.start()
         tried(site)
@@ -521,7 +516,6 @@ def run_trial(options: argparse.Namespace) -> None:
 
 
 def has_networks() -> bool:
-    """Whether networks can be made here."""
     if any(shutil.which(tool) is None for tool in NETWORK_TOOLS):
         return False
     return subprocess.run([*UNSHARED, "true"], capture_output=True, check=False).returncode == 0

@@ -22,9 +22,9 @@ from contextlib import closing
 from pathlib import Path
 from typing import Optional
 
-from harness import Hub, NotRun, Place, parser_of, same, tell
+from harness import Hub, NotRun, Place, Threads, parser_of, same, tell
 from proxy_harness import (
-    HOST, KINDS, LANGUAGE, OPENSSL, ROOT, SECONDS, USER, Authority, Client, Clients, Kind, Process,
+    HOST, KINDS, LANGUAGE, OPENSSL, ROOT, SECONDS, USER, Authority, Client, Kind, Process,
     Proxy, free_ports, gateway_words, need, open_folder, ready, stop)
 
 HUBS, GATEWAYS = 2, 3
@@ -131,7 +131,7 @@ def long_requests(site: Site) -> None:
     same("a long batch", (status, answer.count(b'"status":"200')), (200, ENTRIES))
 
 
-class Asking(Clients):
+class Asking(Threads):
     """Clients that ask one after the other for some path until they are told to end, and keep what
     isn't as the first answer was."""
 
