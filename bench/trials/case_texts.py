@@ -2,14 +2,12 @@
 parts and releases that they name. A part of try_cases.py."""
 
 import re
-import sys
 from collections.abc import Iterator, Mapping
 from pathlib import Path
 from typing import NamedTuple, Optional
 
-TOP = Path(__file__).resolve().parents[2]
-sys.path.append(str(TOP / "bench" / "measurements"))
-import make_release as rf2  # noqa: E402
+from harness import TOP
+import make_release as rf2  # harness.py looks for it.
 
 # The files of transcripts; the releases that all of them share, and pieces that have to fail.
 FOLDER = TOP / "bench" / "cases"
@@ -26,8 +24,6 @@ MEMBERS, DELTA, DAY = "Refset/Content/der2_%sRefset_Example{}", "Delta", "202001
 ESCAPES = {"n": b"\n", "r": b"\r", "t": b"\t"}
 ESCAPED = re.compile(rb"\\(?:([nrt])|x([0-9a-f]{2})|\(([^*]*)\*(\d+)\))")
 BLOCKS = ("case", "part", "release")
-# The last line of a reply begins with one of these words.
-LAST_WORDS = ("OK", "END", "ERR")
 
 
 class Fault(Exception):

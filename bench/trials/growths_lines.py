@@ -39,9 +39,8 @@ class Session:
 
     def __init__(self, program: Program, folder: Path, count: int, seed: int) -> None:
         self.made = soak.Soak(str(program.program), seed, str(folder))
-        self.keeps_all: bool = self.made.is_of_layout_three()
         self.store = Path(self.made.store)
-        layout = "3" if self.keeps_all else "2"
+        layout = max(self.made.layout, "2")
         Place(program.program, folder).done("init", "--store", self.store, "--layout", layout)
         self.lines: list[str] = []
         for _ in range(count):
@@ -51,21 +50,21 @@ class Session:
 
     def questions(self) -> list[str]:
         """What is asked behind the random lines, by a session that they don't pin."""
-        model, day = self.made.model, soak.LAST_DATE
-        concepts, refsets, imports = self.column("D", 4), self.column("M", 4), model.state.imports
+        model, day, column = self.made.model, soak.LAST_DATE, self.made.column
+        concepts, refsets, imports = column("D", 4), column("M", 4), model.state.imports
         forms: list[tuple[str, Iterable[object]]] = [
-            ("TERMS {day} 1000 {}", sorted({term[0].casefold() for term in self.column("D", 7)})),
-            ("CHILDREN {} {day}", self.column("R", 5)),
-            ("DESCENDANTS {} {day}", self.column("R", 5)[:5]),
-            ("ANCESTORS {} {day}", self.column("R", 4)[:5]),
-            ("REPLACED {} {day}", self.column("A", 5)),
-            ("REPLACES {} {day}", self.column("A", 6)[:5]),
+            ("TERMS {day} 1000 {}", sorted({term[0].casefold() for term in column("D", 7)})),
+            ("CHILDREN {} {day}", column("R", 5)),
+            ("DESCENDANTS {} {day}", column("R", 5)[:5]),
+            ("ANCESTORS {} {day}", column("R", 4)[:5]),
+            ("REPLACED {} {day}", column("A", 5)),
+            ("REPLACES {} {day}", column("A", 6)[:5]),
             ("MEMBERS {} {day} - 10", refsets), ("VALUES {} {day} - 3", refsets),
             ("RECEIPT {}", range(1, imports + 1)), ("AT {} DATES", (0, imports))]
         forms += [(f"CALLED {{}} {{day}} {language}", concepts[:20]) for language in rf2.LANGUAGES]
         for kind, place in SUBJECTS.items():
-            forms += [(f"ABOUT {kind} {{}} {{day}}", self.column(kind, place)[:20]),
-                      (f"TIMELINE {kind} {{}}", self.column(kind, place)[:5])]
+            forms += [(f"ABOUT {kind} {{}} {{day}}", column(kind, place)[:20]),
+                      (f"TIMELINE {kind} {{}}", column(kind, place)[:5])]
         for kind in KINDS:
             forms += [(f"HISTORY {kind} {{}}", self.made.names(kind)[:20]),
                       (f"DELTA {kind} 20191231 {{}} - 10", [day])]
@@ -73,11 +72,6 @@ class Session:
         for line in lines:
             model.reply(line)
         return lines
-
-    def column(self, kind: str, place: int) -> list[str]:
-        """What a column of a kind has, in any version of a component."""
-        of = self.made.model.kinds[kind].of
-        return sorted({columns[place] for dates in of.values() for _, columns in dates.values()})
 
 
 class Served(NamedTuple):
@@ -303,4 +297,4 @@ def runs_of_session(program: Program, folder: Path, count: int, seed: int) -> li
     session = Session(program, folder, count, seed)
     made = session.made.releases
     return [Runs(program, folder, Served(session.lines, Path(made.folder), made.files,
-                                         session.store, keeps_all=session.keeps_all))]
+                                         session.store, keeps_all=session.made.model.keeps_all))]

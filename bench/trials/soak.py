@@ -143,7 +143,7 @@ class Releases:
         if sort in rf2.BASIC_SORTS or sort in rf2.FURTHER_SORTS:
             return self.edition.component(sort)
         name = (self.edition.name("R") if sort == UNKEPT
-                else uuid.UUID(int=self.chance.getrandbits(128)))
+                else str(uuid.UUID(int=self.chance.getrandbits(128))))
         made = rf2.Component(name, sort, self.body(sort))
         self.edition.made[sort].append(made)
         return made
@@ -248,10 +248,6 @@ class Releases:
         found = [self.lines[sort] for sort in SORTS
                  if SORTS[sort].kind == kind and sort != UNKEPT and self.lines[sort]]
         return self.chance.choice(self.chance.choice(found)) if found else None
-
-
-def fields(line: str) -> Columns:
-    return line.removeprefix("ROW ").split("\t")
 
 
 class Soak:
@@ -477,17 +473,17 @@ class Soak:
             self.check("9 DATES")
             self.check("9 DESCENDANTS %d %s" % (rf2.ROOT, LAST_DATE))
             for kind in KINDS:
-                self.pages(kind, self.chance.choice(DATES))
-                self.pages(kind, LAST_DATE)
+                for date in (self.chance.choice(DATES), LAST_DATE):
+                    self.pages("9 PAGE %s %s" % (kind, date), 1000)
         self.check("9 UNPIN")
 
-    def pages(self, kind: str, date: str) -> None:
-        after = "-"
-        while True:
-            said = self.check("9 PAGE %s %s %s 1000" % (kind, date, after))
-            if len(said) <= 1000:
-                return
-            after = fields(said[-2])[0]
+    def pages(self, question: str, limit: int, column: int = 0) -> None:
+        """Asks page by page, each from behind what a column of the last row has, up to an empty
+        one."""
+        said = self.check("%s - %d" % (question, limit))
+        while len(said) > 1:
+            after = said[-2].removeprefix("ROW ").split("\t")[column]
+            said = self.check("%s %s %d" % (question, after, limit))
 
     def check(self, line: str) -> list[str]:
         said = self.model.reply(line)
@@ -504,10 +500,10 @@ class Soak:
         self.check_all(["0 AT %d DATES" % number for number in range(imports + 1)])
         self.check_all(["0 AT %d DIGEST" % number for number in (0, imports // 2, imports)])
         self.check_all([self.around() for _ in range(ASKED_AROUND)])
-        for refset in self.refsets():
+        for refset in self.column("M", REFSET):
             for date in (self.chance.choice(DATES), LAST_DATE):
-                self.all_members(refset, date)
-                self.all_values(refset, date)
+                self.pages("0 MEMBERS %s %s" % (refset, date), MEMBERS_AT_ONCE)
+                self.pages("0 VALUES %s %s" % (refset, date), MEMBERS_AT_ONCE, REFERENCED)
 
     def around(self) -> str:
         """A question about what is around a concept on any day, as an import left it."""
@@ -518,24 +514,10 @@ class Soak:
         at = self.chance.randint(0, self.model.state.imports)
         return "0 AT %d %s" % (at, self.chance.choice(asked))
 
-    def refsets(self) -> list[str]:
-        """All reference sets that any version of a member is of."""
-        members = self.model.kinds["M"].of.values()
-        return sorted({columns[REFSET] for dates in members for _, columns in dates.values()})
-
-    def all_members(self, refset: str, date: str) -> None:
-        """Asks for all members of a reference set, as a client does."""
-        asked = "0 MEMBERS %s %s %%s %d" % (refset, date, MEMBERS_AT_ONCE)
-        said = self.check(asked % "-")
-        while len(said) > MEMBERS_AT_ONCE:
-            said = self.check(asked % fields(said[-2])[0])
-
-    def all_values(self, refset: str, date: str) -> None:
-        """Asks for all values of a reference set, each from behind the last component."""
-        said = self.check("0 VALUES %s %s - %d" % (refset, date, MEMBERS_AT_ONCE))
-        while len(said) > 1:
-            after = fields(said[-2])[REFERENCED]
-            said = self.check("0 VALUES %s %s %s %d" % (refset, date, after, MEMBERS_AT_ONCE))
+    def column(self, kind: str, place: int) -> list[str]:
+        """What a column of a kind has, in any version of a component."""
+        of = self.model.kinds[kind].of
+        return sorted({columns[place] for dates in of.values() for _, columns in dates.values()})
 
     def check_all(self, lines: list[str]) -> None:
         """Asks lines, fifty at a time."""
@@ -570,7 +552,8 @@ class Soak:
         same("the end", (self.served.end(), self.served.unread), (0, b""))
 
     def make_store(self) -> None:
-        self.place.done("init", "--store", self.store, "--layout", max(self.layout, "2"))
+        words = ["init", "--store", self.store, "--layout", max(self.layout, "2")]
+        same("init", self.place.done(*words), "OK")
         if self.layout == "1":
             with open(self.store, "r+b") as file:
                 for at in LAYOUTS_AT:

@@ -10,8 +10,9 @@ from pathlib import Path
 
 import pytest
 
-from harness import HANDING_ON, Hub, Place, Wrong, concept, concept_id, until
+from harness import HANDING_ON, Hub, Place, Wrong, concept, concept_id
 from test_duties import NOT_A_QUESTION
+from test_sessions import served
 
 # How many clients ask, how often, how many lines at once at most, of a store of so many imports.
 CLIENTS, ROUNDS, MOST_LINES, IMPORTS = 64, 12, 40, 6
@@ -124,13 +125,7 @@ def test_users(place: Place, two_imports: Path) -> None:
         told = f"user {os.getuid()} has 3 connections, and gets no other one"
         assert hub.logged() == [told]
         clients[0].leave()
-
-        def is_served() -> bool:
-            client = hub.asker()
-            client.send(b"RECEIPT 1\n")
-            return client.read() == ["OK 1 6 20200131"]
-
-        until("another one is served", is_served)
+        served(hub.questions).leave()
 
 
 def test_idle(place: Place, two_imports: Path) -> None:

@@ -11,7 +11,6 @@ import re
 import resource
 import shutil
 import subprocess
-import sys
 import time
 from collections.abc import Callable, Sequence
 from pathlib import Path
@@ -97,9 +96,7 @@ def begins(place: Place, store: Path, tells: Sequence[str], lines: Sequence[str]
 
 def without_hub(place: Place, store: Path) -> subprocess.CompletedProcess[bytes]:
     """What the list of a store is without a hub."""
-    return subprocess.run(
-        [sys.executable, place.script(HUB), "imports", "--program", place.program, "--store",
-         store], capture_output=True, timeout=HUB_SECONDS, check=False)
+    return place.run_script(HUB, "imports", "--program", place.program, "--store", store)
 
 
 def test_the_list(place: Place) -> None:

@@ -13,7 +13,6 @@ and the status is 0 where there were cases and none failed. Standard library alo
 
 from __future__ import annotations
 
-import argparse
 import re
 import shutil
 import sys
@@ -23,13 +22,13 @@ from itertools import zip_longest
 from pathlib import Path
 from typing import Optional
 
-from case_texts import FOLDER, LAST_WORDS, SHARED, TOP, WRONG, Block, Fault, File, Line, blocks_of
-from case_texts import files_of, files_of_cases, number_of, numbers_of, reply, write_release
+from case_texts import FOLDER, SHARED, WRONG, Block, Fault, File, Line, blocks_of, files_of
+from case_texts import files_of_cases, number_of, numbers_of, reply, write_release
+from harness import LAST_WORDS, RELEASES as SAMPLES, parser_of
 from transcripts import Given, Place, differences, place_for, text_of
 
 # The folders that each case finds in its own: those beside the transcripts, and the samples.
 DATA = ("packages", "releases", "rows", "spoiled")
-SAMPLES = TOP / "docs" / "releases"
 STORE, RELEASES = "store", "releases"
 SERVE = ("sctd", "serve", "--store", STORE, "--releases", RELEASES)
 # How many cases are carried out at a time: they mostly wait for the disk.
@@ -378,9 +377,7 @@ class Cases:
 
 
 def main() -> int:
-    assert __doc__
-    parser = argparse.ArgumentParser(description=__doc__.strip().split("\n", maxsplit=1)[0])
-    parser.add_argument("program", type=Path, metavar="PROGRAM")
+    parser = parser_of(__doc__)
     parser.add_argument("--wrong", action="store_true", help="try those that have to fail")
     parser.add_argument("files", nargs="*", type=Path, metavar="FILE")
     asked = parser.parse_args()

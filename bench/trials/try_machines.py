@@ -153,6 +153,10 @@ class Machine:
                 self.begin(name)
             self.is_off = False
 
+    def start_after_kill(self) -> None:
+        self.start()
+        self.note(self.imports())
+
     def begin(self, name: str) -> None:
         words, log = [*self.within, *self.words()[name]], self.place / "log"
         if name != "copies":
@@ -323,10 +327,6 @@ class Site:
         self.writer.note(found)
         self.import_next()
 
-    def back(self, machine: Machine) -> None:
-        machine.start()
-        machine.note(machine.imports())
-
     def feed(self, readers: Sequence[Machine]) -> None:
         """Has the readers take a backup, one after the other."""
         name = "%d.store" % self.imports
@@ -369,9 +369,6 @@ class Site:
         if any(begin <= until and since <= end for begin, end in self.gaps):
             return True
         return not any(one.has_had(pin or 0, since, until) for one in self.machines)
-
-    def is_late(self) -> bool:
-        return time.monotonic() > self.end_at
 
     def close(self) -> None:
         self.proxy.end()
@@ -437,7 +434,7 @@ class Asking(Threads):
 
     def wait_for(self, count: int) -> None:
         """Waits until so many are asked, or there is no more time."""
-        while self.asked < count and not self.faults and not self.site.is_late():
+        while self.asked < count and not self.faults and time.monotonic() < self.site.end_at:
             time.sleep(LOOK_SECONDS)
         if self.faults:
             raise Wrong("; ".join(self.faults[:TOLD]))
@@ -455,7 +452,7 @@ def disturb(site: Site) -> None:
     elif turn == KILL_READER:
         site.near.kill()
     elif turn == START_READER:
-        site.back(site.near)
+        site.near.start_after_kill()
     if site.imports % FED_EVERY == 0:
         site.feed([site.near] if turn in BEHIND else [site.near, site.far])
 
@@ -488,7 +485,7 @@ def tried(site: Site) -> None:
     site.feed([site.near, site.far])
     began = time.monotonic()
     with Asking(site) as asking:
-        while site.imports < size.imports and not site.is_late():
+        while site.imports < size.imports and time.monotonic() < site.end_at:
             asking.wait_for(size.requests * site.imports // size.imports)
             disturb(site)
         asking.wait_for(size.requests)
@@ -496,7 +493,7 @@ def tried(site: Site) -> None:
     if asking.faults:
         raise Wrong("; ".join(asking.faults[:TOLD]))
     if site.near.is_off:
-        site.back(site.near)
+        site.near.start_after_kill()
     site.feed([site.near, site.far])
     digests = {one.asked("DIGEST") for one in site.machines}
     same("how many digests the machines have", len(digests), 1)
@@ -505,14 +502,6 @@ def tried(site: Site) -> None:
         site.imports, asking.asked, time.monotonic() - began, shown), flush=True)
     for what in ("answered at a pin", "answered without a pin"):
         same("whether some were " + what, counts[what] > 0, True)
-
-
-def run_trial(options: argparse.Namespace) -> None:
-    with open_folder() as place, closing(Site(place, options)) as site:
-        site.start()
-        tried(site)
-        refused_copies(site)
-        print("copies that aren't taken: as it has to be", flush=True)
 
 
 def has_networks() -> bool:
@@ -529,7 +518,11 @@ def begin(options: argparse.Namespace) -> None:
             # (With this process all that it starts is ended, too.)
             os.execvp(UNSHARED[0], [*UNSHARED, sys.executable, *sys.argv, INSIDE])
         print("the machines are processes, without networks of their own", flush=True)
-    run_trial(options)
+    with open_folder() as place, closing(Site(place, options)) as site:
+        site.start()
+        tried(site)
+        refused_copies(site)
+        print("copies that aren't taken: as it has to be", flush=True)
 
 
 def main() -> int:

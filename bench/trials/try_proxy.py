@@ -223,22 +223,19 @@ TRIALS: Sequence[Callable[[Site], Optional[str]]] = (
     who_may_ask, long_requests, restarts, readings, lacking_a_pin, without_a_hub)
 
 
-def tried(program: str, kind: Kind, restarts: int) -> None:
-    with open_folder() as place, closing(Site(program, place, kind, restarts)) as site:
-        site.start()
-        for trial in TRIALS:
-            said = trial(site) or "as it has to be"
-            print("%s: %s: %s" % (kind.name, trial.__name__, said), flush=True)
-
-
-def tried_by_all(program: str, restarts: int) -> None:
+def tried(program: str, restarts: int) -> None:
     need(OPENSSL)
-    absent = [kind.name for kind in KINDS if shutil.which(kind.name) is None]
+    absent = [kind for kind in KINDS if shutil.which(kind.name) is None]
     for kind in KINDS:
-        if kind.name not in absent:
-            tried(program, kind, restarts)
+        if kind in absent:
+            continue
+        with open_folder() as place, closing(Site(program, place, kind, restarts)) as site:
+            site.start()
+            for trial in TRIALS:
+                said = trial(site) or "as it has to be"
+                print("%s: %s: %s" % (kind.name, trial.__name__, said), flush=True)
     if absent:
-        raise NotRun("there is no " + " and no ".join(absent))
+        raise NotRun("there is no " + " and no ".join(kind.name for kind in absent))
 
 
 def main() -> int:
@@ -246,7 +243,7 @@ def main() -> int:
     parser.add_argument("--long", dest="restarts", action="store_const", const=LONG_RESTARTS,
                         default=RESTARTS, help="more restarts")
     asked = parser.parse_args()
-    return tell(lambda: tried_by_all(str(asked.program), asked.restarts))
+    return tell(lambda: tried(str(asked.program), asked.restarts))
 
 
 if __name__ == "__main__":
