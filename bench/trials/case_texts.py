@@ -156,8 +156,7 @@ def names_of_cases() -> list[str]:
 
 
 class File:
-    """A file of transcripts: its cases, its parts and its releases, with those that all files
-    share."""
+    """The cases, the parts and the releases of a file, with those that all files share."""
 
     def __init__(self, text: str, shared: Mapping[str, Block]) -> None:
         self.cases: list[Block] = []

@@ -52,10 +52,9 @@ class Program:
         if refusals is not None:
             around.update(LD_PRELOAD=str(self.library), REFUSED=str(mark),
                           REFUSE=str(refusals.first), REFUSE_COUNT=str(refusals.how_many))
-        ran, was_refused = Place(self.program, folder).run(*words, given=given, around=around), False
-        if mark.exists():
-            mark.unlink()
-            was_refused = True
+        ran = Place(self.program, folder).run(*words, given=given, around=around)
+        was_refused = mark.exists()
+        mark.unlink(missing_ok=True)
         return ran, was_refused
 
 

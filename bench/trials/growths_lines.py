@@ -124,8 +124,7 @@ class Runs:
         return self.program.run(words, folder, given, refusals)
 
     def check(self, model: Model, lines: Sequence[str], replies: Sequence[Reply]) -> list[int]:
-        """Compares the replies of a run, and gives the places of the lines that were refused: these
-        aren't told to the model."""
+        """Compares replies, and gives the places of refused lines, which the model isn't told."""
         refused = []
         for place, (line, said) in enumerate(zip(lines, replies)):
             if said == REFUSED:
@@ -225,8 +224,7 @@ class Runs:
         return True
 
     def have_imports(self, several: Sequence[Outcome]) -> bool:
-        """Whether all imports were refused in one of these runs and one came in another, if the
-        lines have any."""
+        """Whether one of these runs refused all imports and another made one, if there are any."""
         before = self.model().state.imports
         came = {outcome.imports > before for outcome in several if outcome.refused}
         are_there = any(outcome.imports > before for outcome in self.outcomes[ALONE])

@@ -68,17 +68,10 @@ class Room:
     def leave(self, room: int) -> None:
         struct.pack_into(NUMBERS, self.shared, 0, room, 0, 0)
 
-    def refused(self) -> int:
-        """How many requests there was no room for."""
-        return self.number(1)
-
-    def lacked(self) -> int:
-        """How many bytes one of these lacked at least."""
-        return self.number(2)
-
-    def number(self, place: int) -> int:
-        found: int = struct.unpack_from(NUMBERS, self.shared)[place]
-        return found
+    def counts(self) -> tuple[int, int]:
+        """How many requests lacked room, and how many bytes one of them lacked at least."""
+        _, refused, lacked = struct.unpack_from(NUMBERS, self.shared)
+        return refused, lacked
 
     def around(self, library: Path) -> dict[str, str]:
         return {**os.environ, "LD_PRELOAD": str(library), "ROOM": str(self.path)}
@@ -107,7 +100,7 @@ class Rooms:
         for refused in range(TRIES):
             room.leave(STEP * refused)
             said = server.ask(line)
-            has_lacked = room.refused() > 0
+            has_lacked = room.counts()[0] > 0
             room.leave(ALL)
             if said != REFUSED:
                 if said != self.model.reply(f"0 {line}"):
@@ -143,10 +136,11 @@ class Rooms:
             room.leave(bytes_left)
             ran, _ = self.program.run(start.words, folder, start.given,
                                       around=room.around(self.program.library))
-            if not room.refused():
+            refused, lacked = room.counts()
+            if not refused:
                 break
             self.check_start(start, ran, files_in(folder))
-            bytes_left, runs = bytes_left + room.lacked(), runs + 1
+            bytes_left, runs = bytes_left + lacked, runs + 1
         if (ran.status, ran.output) != (0, start.output):
             raise Wrong(told(ran))
         print(f"{start.name}: in {runs} runs")
@@ -162,8 +156,7 @@ class Rooms:
             raise Wrong(told(ran))
 
     def starts(self) -> None:
-        """Makes a store and opens one: a refusal leaves nothing of the one, and the other as it
-        was."""
+        """Makes a store and opens one: a refusal leaves nothing, or the store as it was."""
         none: Files = {}
         store = ("--store", STORE)
         merged = {STORE: self.merged}

@@ -24,8 +24,7 @@ UNCOMPARED = "sctd: warning: not all dates and modules could be compared with th
 
 
 class Task(NamedTuple):
-    """The words of a run, the store that it begins with, if any, what it is given, and its status
-    with all memory."""
+    """The words of a run, the store that it begins with, its input, its status with all memory."""
 
     words: str
     store: Optional[str] = None

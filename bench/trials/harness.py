@@ -158,8 +158,7 @@ class Ran(NamedTuple):
 
 
 class Place:
-    """What is tried: the program, and a tree with the folders `service` and `examples`; and a
-    folder to do it in."""
+    """What is tried: the program, and a tree with `service` and `examples`; and a folder for it."""
 
     def __init__(self, program: Path, folder: Path, tree: Path = TOP) -> None:
         self.program, self.folder, self.tree = program, folder, tree
@@ -469,8 +468,7 @@ class Hub:
         return NO_LINES.sub("", text, count=1) if NO_LINES.match(text) else text
 
     def logged(self, is_alone: bool = True) -> list[str]:
-        """The lines of its log, without their times, which stand alone or beside those of the
-        program."""
+        """The lines of its log, without their times; the program's may stand among them."""
         lines = self.told().splitlines()
         others = [line for line in lines if not TIME.match(line)]
         same("lines of the log without a time", others if is_alone else [], [])

@@ -7,11 +7,12 @@ import sys
 from functools import cache
 from pathlib import Path
 
-SERVICE = Path(__file__).resolve().parents[2] / "service"
-sys.path.append(str(SERVICE))
+from harness import TOP as TREE, write_release
+
+sys.path.append(str(TREE / "service"))
 from tests.demo_releases import (  # noqa: E402
-    CASE_INSENSITIVE, COLUMNS, CORE, FILES, FULLY_SPECIFIED, INFERRED, IS_A, MODIFIER, PRIMITIVE,
-    ROOT, SYNONYM)
+    CASE_INSENSITIVE, COLUMNS, CORE, FULLY_SPECIFIED, INFERRED, IS_A, MODIFIER, PRIMITIVE, ROOT,
+    SYNONYM)
 from tests.release_files import Rows  # noqa: E402
 from make_release import sctid  # noqa: E402
 
@@ -74,8 +75,5 @@ def rows_of(pin: int) -> Rows:
 
 def write(folder: Path, count: int) -> None:
     for number in range(1, count + 1):
-        for kind, rows in release(number).items():
-            path = folder / ("r%d" % number) / (FILES[kind] % day_of(number))
-            path.parent.mkdir(parents=True, exist_ok=True)
-            lines = ["\t".join(COLUMNS[kind].split()), *("\t".join(row) for row in rows)]
-            path.write_bytes("".join(line + "\n" for line in lines).encode())
+        rows = {kind: ["\t".join(row) for row in found] for kind, found in release(number).items()}
+        write_release(folder / f"r{number}", rows, day_of(number))

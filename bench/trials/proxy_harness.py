@@ -112,8 +112,7 @@ class Authority:
 
 
 class Proxy:
-    """A proxy with its configuration in packaging/, in which names, addresses and paths are those
-    of a trial."""
+    """A proxy with its configuration in packaging/, with a trial's names, addresses and paths."""
 
     def __init__(self, place: Path, gateways: Sequence[str], kind: Kind = NGINX) -> None:
         self.place, self.gateways, self.kind = place, gateways, kind

@@ -212,8 +212,7 @@ class Releases:
         return kept
 
     def spoil(self, rows: dict[str, list[Columns]]) -> dict[str, Fault]:
-        """Puts a wrong check digit into the first concept, or a fault into a row of a member, if
-        there is one."""
+        """Spoils the check digit of the first concept, or a row of a member, if there is one."""
         sorts = [sort for sort in rows if SORTS[sort].kind == "M" and rows[sort]]
         if rows["C"] and (not sorts or self.chance.random() < 0.5):
             first = list(rows["C"][0])
@@ -478,8 +477,7 @@ class Soak:
         self.check("9 UNPIN")
 
     def pages(self, question: str, limit: int, column: int = 0) -> None:
-        """Asks page by page, each from behind what a column of the last row has, up to an empty
-        one."""
+        """Asks for pages up to an empty one, each from behind what a column of the last row has."""
         said = self.check("%s - %d" % (question, limit))
         while len(said) > 1:
             after = said[-2].removeprefix("ROW ").split("\t")[column]
@@ -562,8 +560,7 @@ class Soak:
                         file.write(LAYOUT_ONE)
 
     def copy_in_layout_three(self) -> None:
-        """Between two servers a copy in layout 3 takes the place of the store, perhaps after a copy
-        that was killed."""
+        """Between two servers a copy in layout 3 replaces the store, perhaps after a killed one."""
         same("the end before a copy", (self.served.end(), self.served.unread), (0, b""))
         made = self.store + ".copy"
         words = ["copy", "--store", self.store, "--to", made, "--layout", "3"]

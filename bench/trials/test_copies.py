@@ -178,8 +178,7 @@ def test_stopped_copies(slow: Slowly, store: Path, is_made: bool) -> None:
 
 @pytest.mark.parametrize("is_made", (False, True))
 def test_foreign_files(place: Place, slow: Slowly, store: Path, is_made: bool) -> None:
-    """A file that was moved to the path of a copy, while that is made or checked, isn't removed
-    where the copy fails."""
+    """A file moved to the path of a copy, while that is made or checked, stays if it fails."""
     other = place.path("other")
     other.write_bytes(FOREIGN)
     with Hub(slow.place, store) as hub:

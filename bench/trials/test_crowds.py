@@ -97,8 +97,7 @@ def test_exchanged_replies(place: Place, store: Path) -> None:
 
 
 def test_watching(place: Place, store: Path) -> None:
-    """Who watches is told of an import before it is answered, on either socket, and has its replies
-    in their order."""
+    """Who watches is told of an import before it is answered, and has its replies in order."""
     with Hub(place, store, releases=place.releases, asks=True) as hub:
         owner, watchers = hub.client(), [hub.asker(), hub.client()]
         for watcher in watchers:
@@ -114,8 +113,7 @@ def test_watching(place: Place, store: Path) -> None:
 
 
 def test_users(place: Place, two_imports: Path) -> None:
-    """A user has so many connections on the socket for questions and no more, which is told
-    once."""
+    """A user has so many connections on the socket for questions and no more, as is told once."""
     with Hub(place, two_imports, "--connections-a-user", "3", asks=True) as hub:
         clients = [hub.asker() for _ in range(3)]
         for client in [*clients, hub.client()]:
@@ -129,8 +127,7 @@ def test_users(place: Place, two_imports: Path) -> None:
 
 
 def test_idle(place: Place, two_imports: Path) -> None:
-    """Who says nothing for long is hung up on, but not who watches, nor who may change the
-    store."""
+    """Who is silent for long is hung up on, but not who watches, nor who may change the store."""
     short = place.changed("clients.py", "IDLE_SECONDS, IDLE_SECONDS_IF_FULL = 600, 10",
                           "IDLE_SECONDS, IDLE_SECONDS_IF_FULL = 1, 1")
     with Hub(short, two_imports, asks=True) as hub:

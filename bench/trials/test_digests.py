@@ -72,8 +72,7 @@ class Held:
 
 @pytest.mark.parametrize("layout, rows", ((2, 7), (3, 7), (3, PAGE_ROWS)))
 def test_own_digests(place: Place, layout: int, rows: int) -> None:
-    """A digest is that of the program itself, of each kind of rows, at each pin, however the
-    session came to it."""
+    """A digest is the program's own, of each kind of rows and at each pin, however it was set."""
     whole = rf2.make(place.releases, PACKAGE_ROWS, SEED, is_package=True).full
     store = place.make_store(layout=layout)
     place.import_all(store, [whole, RELEASES / "r1", RELEASES / "r2"])
@@ -180,8 +179,7 @@ def connections(client: Client) -> int:
 
 
 def test_leaving(place: Place, store: Path) -> None:
-    """Of a client that leaves nothing more is asked for, whether its digest was begun or not, and
-    its session is another one's."""
+    """For a client that leaves no more pages are asked for, and another one gets its session."""
     held = Held(place, HELD)
     with Hub(held.place, store, asks=True) as hub:
         leaving, staying = [hub.asker() for _ in range(DIGESTS)], hub.asker()
@@ -216,8 +214,7 @@ def test_stopped(place: Place, store: Path) -> None:
 
 
 def test_refused_pages(place: Place, store: Path) -> None:
-    """What a page is refused with, the digest is: damage, and a fault of the disk, after which the
-    hub ends."""
+    """A digest is refused as a page is: for damage, or a fault of the disk, which ends the hub."""
     with Hub(place, store) as hub:
         assert hub.client().ask("AT 3 DIGEST") == ["ERR 44 PinRange"]
         assert hub.client().ask("DIGEST") == IN_2021

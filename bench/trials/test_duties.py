@@ -405,8 +405,7 @@ MOST_EXPOSED, GATEWAY_EXPOSED = 6, 10
 @pytest.mark.parametrize("path, lines, most", (
     (UNIT, LINES + HUB_LINES, MOST_EXPOSED), (GATEWAY_UNIT, LINES, GATEWAY_EXPOSED)))
 def test_units(path: Path, lines: Sequence[str], most: int) -> None:
-    """The units are as hardened as they can be. That of the hub gives questions to a group and
-    imports to its owner."""
+    """Units are hardened. That of the hub gives questions to a group and imports to its owner."""
     text = path.read_text("utf-8")
     for line in lines:
         assert text.count(f"\n{line}\n") == 1, line

@@ -35,8 +35,7 @@ class Made(NamedTuple):
 
 @pytest.fixture(scope="module", params=(2, 3))
 def made(tried: Place, request: pytest.FixtureRequest) -> Iterator[Made]:
-    """Stores of layout 2 and 3 whose imports have several versions of components, rows that others
-    had, and terms with a CR."""
+    """Stores of layout 2 and 3: several versions of components, repeated rows, CRs in terms."""
     layout: int = request.param
     place = tried.below(f"exports of layout {layout}")
     rf2.make(place.releases, PACKAGE_ROWS, SEED, is_package=True)
@@ -64,8 +63,7 @@ def printed(place: Place, hub: Hub, *words: str) -> bytes:
 
 @pytest.mark.parametrize("pin", (1, 2, 3, 4))
 def test_exports(made: Made, pin: int) -> None:
-    """The rows are those of the releases, and their SHA-256 is the store's digest, whatever the
-    size of pages."""
+    """The releases' rows, with the store's digest as their SHA-256, in pages of whatever size."""
     found = printed(made.place, made.hub, "--pin", str(pin), "--check")
     digest, all_files = hashlib.sha256(found).hexdigest(), ["--all"] if b"\nM " in found else []
     assert made.hub.asker().ask(f"AT {pin} DIGEST") == [f"OK {digest}"]

@@ -119,8 +119,7 @@ def test_interrupted_calls(place: Place, library: Library, call: str) -> None:
 
 
 def test_limited_length(place: Place) -> None:
-    """Where the system lets no file become so long, an import and a copy are refused, and leave the
-    store as it was."""
+    """Where no file may become so long, an import and a copy are refused, and the store stays."""
     store, content = store_of_r1(place)
     short = limit(resource.RLIMIT_FSIZE, len(content) - 1)
     words = ("import", "--quiet", "--store", store, RELEASES / "r2")
@@ -212,8 +211,7 @@ def write_whole(place: Place) -> None:
 
 def meddled(place: Place, library: Library, moment: Moment, layout: int, why: str,
             before: Callable[[], object] | None = None) -> None:
-    """An import of such a release, in which something happens, is refused. The store is left as it
-    was."""
+    """An import in which something happens is refused, and the store is left as it was."""
     write_whole(place)
     store = place.make_store(layout=layout)
     content = store.read_bytes()

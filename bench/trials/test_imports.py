@@ -2,8 +2,6 @@
 for it but the import, and what is told of it after kills, take-backs, writes of other programs and
 on a full disk."""
 
-from __future__ import annotations
-
 import contextlib
 import os
 import random
@@ -100,8 +98,7 @@ def without_hub(place: Place, store: Path) -> subprocess.CompletedProcess[bytes]
 
 
 def test_the_list(place: Place) -> None:
-    """Each confirmed import has a line, and nothing else has one; others compute the same digest.
-    """
+    """Confirmed imports have a line, and nothing else; others compute the same digest."""
     store = place.make_store(layout=3)
     odd = write_release(place.releases / "odd" / "Full", {"C": [concept(1)]})
     for name in ("Refset/b", "Refset/b-c", "Refset/b/deeper", "Terminology/d"):

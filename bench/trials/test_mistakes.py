@@ -7,8 +7,6 @@ store at once, and again beside a server: each release that was answered OK has 
 the next opening, and no other. The lines in the help of `serve` have to be requests, and the
 demonstration what a case of bench/cases/ says."""
 
-from __future__ import annotations
-
 import contextlib
 import os
 import pty
@@ -237,8 +235,7 @@ def test_mistakes(place: Place, mistake: Mistake) -> None:
     ["--releases", "releases", "package/Full/"], ["releases/package/Full"],
     ["./releases//package/Full//"], ["alone"], ["alone/"], ["{}/releases/package/Full"]))
 def test_names(place: Place, store: Path, words: Sequence[str]) -> None:
-    """Names as people type them: with slashes at the end, and paths without a folder of
-    releases."""
+    """Names as people type them: with slashes at the end, and paths without --releases."""
     for folder in ("releases/package/Full", "alone"):
         write(place.path(folder), {f"Terminology/{CONCEPTS}": ROWS, **USUAL})
     named = [word.format(place.folder) for word in words]

@@ -5,8 +5,6 @@ such as don't, and damage under a served store. What many clients and a year of 
 stands in test_duties.py; other files in the store's place, forged names and locks, in
 test_mistakes.py."""
 
-from __future__ import annotations
-
 import collections
 import hashlib
 import itertools
@@ -476,8 +474,7 @@ def test_the_rest(place: Place) -> None:
 @pytest.mark.parametrize("meets", (FIRST_QUESTION, "IMPORT r1", "CHECK r1", "DIGEST"))
 @pytest.mark.parametrize("layout", (2, 3))
 def test_damage(place: Place, layout: int, meets: str) -> None:
-    """Once a line has met damage under a served store, nothing is confirmed until the store is
-    opened again."""
+    """Once a line has met damage, nothing is confirmed until the store is opened again."""
     place.link_releases("r1")
     new = write_release(place.releases / "new", {"C": [concept(1, DATE)]}, DATE)
     store = place.small_store(layout)

@@ -38,8 +38,7 @@ def other(model: Model, line: str) -> Reply:
 
 
 class Fault(NamedTuple):
-    """What is changed, what is printed then and how often, and how many refusals of an import are
-    wanted in too little room."""
+    """What is changed, what is printed then, how often, and how many refusals an import needs."""
 
     changes: Mapping[str, object] = {}
     told: str = ""

@@ -240,8 +240,7 @@ def test_damage(hub: Hub, store: Path) -> None:
 
 @pytest.mark.parametrize("asks", (False, True))
 def test_kill_program(hub: Hub, asks: bool) -> None:
-    """Where the program ends, the hub ends, so that what started it starts it again: also where
-    nobody asks."""
+    """Where the program ends, the hub ends, to be started again: also where nobody asks."""
     program, = hub.programs()
     idle = hub.client()
     assert idle.ask("STATUS") == STATUS
@@ -321,8 +320,7 @@ def waiting(client: Client) -> int:
 
 
 def are_told(client: Client, count: int) -> bool:
-    """Whether so many bytes wait for a client, as soon as they do; and no once no more have come
-    for QUIET seconds."""
+    """Whether so many bytes wait for a client; no once no more have come for QUIET seconds."""
     told, since = waiting(client), time.monotonic()
     while told < count and time.monotonic() - since < QUIET:
         time.sleep(0.005)

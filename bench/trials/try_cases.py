@@ -11,8 +11,6 @@ to fail in the line and for the reason that its heading has. The last line is `N
 and the status is 0 where there were cases and none failed. Standard library alone.
 """
 
-from __future__ import annotations
-
 import re
 import shutil
 import sys

@@ -213,8 +213,7 @@ class Machine:
 
 
 class Question(NamedTuple):
-    """What is asked: at a pin or without one, of the day of a release or of the latest, of a code
-    or of all below the top."""
+    """What is asked at a pin or none, of a release's day or the latest, of a code or all below."""
 
     pin: Optional[int]
     day: Optional[str]

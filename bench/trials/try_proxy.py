@@ -132,8 +132,7 @@ def long_requests(site: Site) -> None:
 
 
 class Asking(Threads):
-    """Clients that ask one after the other for some path until they are told to end, and keep what
-    isn't as the first answer was."""
+    """Clients that ask for a path until they are told to end, and keep what isn't as at first."""
 
     def __init__(self, site: Site, path: str = LOOKUP, may_be_cut: bool = False) -> None:
         super().__init__(CLIENTS, self.ask)
