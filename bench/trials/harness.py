@@ -283,9 +283,9 @@ class Place:
     def digest_of(self, *releases: Path | str) -> str:
         """The digest that examples/digest.py computes from releases; those behind `--all` were
         imported into a store that keeps all their files."""
-        done = self.run_script("examples/digest.py", *releases)
-        same("how a digest is computed", (done.returncode, done.stderr), (0, b""))
-        return done.stdout.decode().rstrip("\n")
+        ran = self.run_script("examples/digest.py", *releases)
+        same("how a digest is computed", (ran.status, ran.faults), (0, ""))
+        return ran.output.rstrip("\n")
 
     def ask(self, store: Path, lines: Sequence[str]) -> list[list[str]]:
         """The replies to lines of one session."""
@@ -298,14 +298,18 @@ class Place:
         return self.tree / name
 
     def run_script(self, name: str, *words: str | Path, given: bytes = b"",
-                   **around: str) -> subprocess.CompletedProcess[bytes]:
+                   seconds: float = HUB_SECONDS, **around: str) -> Ran:
         """Runs a script of the tree to its end, with more words around it."""
         try:
-            return subprocess.run(
-                [sys.executable, self.script(name), *words], input=given, stdout=subprocess.PIPE,
-                stderr=subprocess.PIPE, timeout=HUB_SECONDS, check=False, env=AROUND | around)
+            done = subprocess.run([sys.executable, self.script(name), *words], input=given,
+                                  capture_output=True, timeout=seconds, check=False,
+                                  env=AROUND | around)
         except subprocess.TimeoutExpired:
-            raise Wrong(f"{name} hasn't ended after {HUB_SECONDS} seconds") from None
+            raise Wrong(f"{name} hasn't ended after {seconds} seconds") from None
+        # (A record that is read may have bytes that are no text.)
+        output, faults = (told.decode("utf-8", "surrogateescape")
+                          for told in (done.stdout, done.stderr))
+        return Ran(done.returncode, output, faults)
 
 
 class Server:

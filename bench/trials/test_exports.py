@@ -17,7 +17,7 @@ import pytest
 import harness
 import make_release as rf2
 from harness import HUB_SECONDS, RELEASES, Hub, Place, concept, write_release
-from test_readers import CHAINS, Script, ends_with
+from test_readers import CHAINS, Script
 
 EXPORT, FOLLOW = "examples/export.py", "examples/follow.py"
 SEED, PACKAGE_ROWS = 3, 3_000
@@ -50,12 +50,12 @@ def made(tried: Place, request: pytest.FixtureRequest) -> Iterator[Made]:
 
 def printed(place: Place, hub: Hub, *words: str) -> bytes:
     """What export.py prints, and that it says what it printed."""
-    done = place.run_script(EXPORT, hub.questions, *words)
-    told = done.stderr.decode()
-    rows, digest = done.stdout.count(b"\n"), hashlib.sha256(done.stdout).hexdigest()
-    assert done.returncode == 0, told
-    assert told.startswith("export: pin ") and told.endswith(f", {rows} rows, SHA-256 {digest}\n")
-    return done.stdout
+    status, output, told = place.run_script(EXPORT, hub.questions, *words)
+    rows = output.encode()
+    assert status == 0, told
+    assert told.startswith("export: pin ") and told.endswith(
+        f", {rows.count(10)} rows, SHA-256 {hashlib.sha256(rows).hexdigest()}\n")
+    return rows
 
 
 # ---- export.py
@@ -102,7 +102,8 @@ def test_imports_beside_an_export(place: Place) -> None:
     (["--limit", "0"], "ROWS C - - 0 was answered ERR 43 Arguments"),
     (["--limit", "1001"], "ROWS C - - 1001 was answered ERR 43 Arguments")))
 def test_refused_exports(made: Made, words: list[str], why: str) -> None:
-    ends_with(made.place.run_script(EXPORT, made.hub.questions, *words), f"export: {why}")
+    ran = made.place.run_script(EXPORT, made.hub.questions, *words)
+    assert ran == (1, "", f"export: {why}\n")
 
 
 def test_exports_that_nobody_reads(made: Made) -> None:
@@ -131,7 +132,8 @@ def test_exports_that_arent_whole(place: Place, count: int, why: str) -> None:
         listener.listen()
         hub = threading.Thread(target=answer, args=(listener, replies[:count]))
         hub.start()
-        ends_with(place.run_script(EXPORT, place.path("false"), "--check"), f"export: {why}")
+        ran = place.run_script(EXPORT, place.path("false"), "--check")
+        assert ran == (1, "", f"export: {why}\n")
         hub.join(HUB_SECONDS)
 
 
@@ -140,9 +142,9 @@ def test_exports_that_arent_whole(place: Place, count: int, why: str) -> None:
 
 def followed(place: Place, hub: Hub, name: str, *words: str) -> list[str]:
     """The receipts that a run prints."""
-    done = place.run_script(FOLLOW, hub.questions, place.path(name), *words)
-    assert (done.returncode, done.stderr) == (0, b"")
-    return done.stdout.decode().splitlines()
+    ran = place.run_script(FOLLOW, hub.questions, place.path(name), *words)
+    assert (ran.status, ran.faults) == (0, "")
+    return ran.output.splitlines()
 
 
 def rows_of(path: Path) -> list[tuple[str, str, int]]:
@@ -229,9 +231,9 @@ def test_followers_of_another_store(place: Place, store: Path, names: list[str])
         assert len(followed(place, hub, "file")) == 2
     before = rows_of(place.path("file"))
     with Hub(place, other, asks=True) as hub:
-        done = place.run_script(FOLLOW, hub.questions, place.path("file"))
-    assert (done.returncode, done.stdout) == (1, b"")
-    assert done.stderr.startswith(b"follow: the file followed another store: its import 2 is OK 2 ")
+        ran = place.run_script(FOLLOW, hub.questions, place.path("file"))
+    assert ran[:2] == (1, "")
+    assert ran.faults.startswith("follow: the file followed another store: its import 2 is OK 2 ")
     assert rows_of(place.path("file")) == before
 
 
@@ -242,11 +244,12 @@ def test_followers_of_another_store(place: Place, store: Path, names: list[str])
 def test_refused_followers(place: Place, store: Path, words: list[str], why: str) -> None:
     with Hub(place, store, asks=True) as hub:
         path = hub.questions if words else place.path("none")
-        ends_with(place.run_script(FOLLOW, path, place.path("file"), *words),
-                  f"follow: {why.format(path)}")
+        assert place.run_script(FOLLOW, path, place.path("file"), *words) == (
+            1, "", f"follow: {why.format(path)}\n")
     assert rows_of(place.path("file")) == []
 
 
 def test_followers_whose_file_is_none(hub: Hub, place: Place, store: Path) -> None:
     """Of SQLite."""
-    ends_with(place.run_script(FOLLOW, hub.questions, store), "follow: file is not a database")
+    ran = place.run_script(FOLLOW, hub.questions, store)
+    assert ran == (1, "", "follow: file is not a database\n")

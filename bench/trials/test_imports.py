@@ -16,7 +16,7 @@ from pathlib import Path
 import pytest
 
 from harness import BLOCK, HUB, HUB_SECONDS, RELEASES, SMALL_RELEASES, TRACE, Client, Hub, Place
-from harness import concept, has_strace, mode, until, write_release
+from harness import Ran, concept, has_strace, mode, until, write_release
 
 FIRST_LINE = "sctd imports 1\n"
 TIME = "[0-9]{4}-[0-9]{2}-[0-9]{2}T[0-9]{2}:[0-9]{2}:[0-9]{2}Z"
@@ -92,7 +92,7 @@ def begins(place: Place, store: Path, tells: Sequence[str], lines: Sequence[str]
         assert (told(hub), rows(hub.client())) == (tells, lines)
 
 
-def without_hub(place: Place, store: Path) -> subprocess.CompletedProcess[bytes]:
+def without_hub(place: Place, store: Path) -> Ran:
     """What the list of a store is without a hub."""
     return place.run_script(HUB, "imports", "--program", place.program, "--store", store)
 
@@ -127,13 +127,11 @@ def test_the_list(place: Place) -> None:
     assert listed(store) == lines
     assert list_of(store).read_text("utf-8") == FIRST_LINE + whole
     assert mode(list_of(store)) == 0o600
-    done = without_hub(place, store)
-    assert (done.returncode, done.stdout.decode(), done.stderr) == (0, reply, b"")
+    assert without_hub(place, store) == (0, reply, "")
     with Hub(place, store) as hub:
         assert told(hub) == []
         assert rows(hub.client()) == lines
-        busy = without_hub(place, store)
-        assert (busy.returncode, busy.stdout) == (1, b"")
+        assert without_hub(place, store)[:2] == (1, "")
 
 
 def waiting(place: Place, before: str) -> Place:
@@ -262,8 +260,8 @@ def test_two_take_backs(place: Place) -> None:
     imported(place, store, made[:5])
     take_back(place, store, 3)
     beyond = without_hub(place, store)
-    assert beyond.stdout.decode().count("ROW ") == 5
-    assert b"it has lines of 2 imports that the store doesn't have" in beyond.stderr
+    assert beyond.output.count("ROW ") == 5
+    assert "it has lines of 2 imports that the store doesn't have" in beyond.faults
     taken = "it has lines for imports %d to %d, which the store doesn't have: they don't count"
     four = night_lines([*made[:3], made[5]])
     with Hub(place, store, releases=place.releases) as hub:
@@ -505,9 +503,9 @@ def test_readers_have_it(place: Place) -> None:
     list_of(reader).write_text(FIRST_LINE, encoding="utf-8")
     with Hub(place, store, asks=True) as hub:
         assert hub.client().ask(f"BACKUP {copy}") == ["OK 2 2 2"]
-        done = place.run_script(TAKE, "--program", place.program, "--store", reader, "--questions",
-                                hub.questions, copy, "true")
-        assert (done.returncode, done.stdout) == (0, b"OK 2\n"), done.stderr
+        ran = place.run_script(TAKE, "--program", place.program, "--store", reader, "--questions",
+                               hub.questions, copy, "true")
+        assert ran[:2] == (0, "OK 2\n"), ran.faults
     assert listed(reader) == listed(store)
     assert not (copy.exists() or list_of(copy).exists())
 
@@ -529,9 +527,8 @@ def test_client_of_a_day(place: Place) -> None:
     lines = b"PIN\nRECEIPT 1\nRECEIPT 2\nGET C 1000004 20210131\n"
     active = "ROW 1000004\t20200131\t1\t900000000000207008\t900000000000074008\nEND 1\n"
     with Hub(place, store, asks=True) as hub:
-        def known(day: str, given: bytes = lines) -> tuple[int, str, str]:
-            done = place.run_script(CLIENT, "--known", day, hub.questions, given=given)
-            return done.returncode, done.stdout.decode(), done.stderr.decode()
+        def known(day: str, given: bytes = lines) -> Ran:
+            return place.run_script(CLIENT, "--known", day, hub.questions, given=given)
 
         assert known("2020-12-31", lines[4:])[1:] == (
             "OK 1 6 20200131\nERR 44 PinRange\n" + active,

@@ -32,9 +32,8 @@ WRONG_SETTINGS = {
 
 def ended(place: Place, store: Path, *words: str) -> Ran:
     """How a hub ends that can't begin."""
-    done = place.run_script(HUB, "--program", place.program, "--store", store, "--releases",
+    return place.run_script(HUB, "--program", place.program, "--store", store, "--releases",
                             RELEASES, "--socket", place.path("hub"), *words)
-    return Ran(done.returncode, done.stdout.decode(), done.stderr.decode("utf-8", "replace"))
 
 
 def files(folder: Path) -> list[str]:
