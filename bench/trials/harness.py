@@ -18,6 +18,7 @@ import sys
 import threading
 import time
 from collections.abc import Callable, Iterable, Mapping, Sequence
+from functools import cached_property
 from pathlib import Path
 from typing import NamedTuple, Self
 
@@ -426,6 +427,16 @@ class Hub:
                 same("the end of a hub", self.stop(), 0)
         finally:
             self.close()
+
+    @cached_property
+    def owner(self) -> Client:
+        """One client on the socket of its owner."""
+        return self.client()
+
+    @cached_property
+    def guest(self) -> Client:
+        """One on the socket for questions."""
+        return self.asker()
 
     def client(self) -> Client:
         """A client on the socket of its owner."""

@@ -37,10 +37,9 @@ def checked(store: Path) -> Path:
 
 
 def begin_check(hub: Hub, slow: Place, lines: bytes) -> Client:
-    owner = hub.client()
-    owner.send(lines)
+    hub.owner.send(lines)
     until("the release is checked", slow.path("begun").exists)
-    return owner
+    return hub.owner
 
 
 def notes_of(client: Client, line: str) -> tuple[list[str], str]:
@@ -116,12 +115,11 @@ def test_a_check_of_a_hub_that_ends(place: Place, store: Path, checked: Path) ->
 def test_what_stands_in_the_way(hub: Hub, checked: Path) -> None:
     """A copy that a killed hub has left is replaced. Where none can be made the program checks, and
     others wait."""
-    owner = hub.client()
     checked.write_bytes(b"left")
-    assert owner.ask("CHECK next") == ["OK 2 1 0"]
+    assert hub.owner.ask("CHECK next") == ["OK 2 1 0"]
     assert not checked.exists()
     checked.mkdir()
-    assert owner.ask("CHECK next") == ["OK 2 1 0"]
+    assert hub.owner.ask("CHECK next") == ["OK 2 1 0"]
     assert "no copy to check on: File exists" in hub.told()
 
 
@@ -129,15 +127,13 @@ def test_what_stands_in_the_way(hub: Hub, checked: Path) -> None:
                                   "-", "--help", "next\\", "n\x1bext", "next\tx"))
 def test_names(hub: Hub, name: str) -> None:
     """A check is refused for what an import is refused for."""
-    owner = hub.client()
-    assert owner.ask(f"CHECK {name}") == owner.ask(f"IMPORT {name}")
+    assert hub.owner.ask(f"CHECK {name}") == hub.owner.ask(f"IMPORT {name}")
 
 
 def test_damage_is_told(hub: Hub, store: Path) -> None:
     """A check that meets damage tells of it, as other lines do."""
-    owner = hub.client()
     flip(store)
-    reply, = owner.ask("CHECK wrong")
+    reply, = hub.owner.ask("CHECK wrong")
     assert reply.startswith("ERR 8 ")
-    assert owner.ask("STATUS")[0].endswith(" Damaged")
+    assert hub.owner.ask("STATUS")[0].endswith(" Damaged")
     assert hub.stop() == 1

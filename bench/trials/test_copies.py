@@ -29,20 +29,19 @@ def test_copies(place: Place, store: Path) -> None:
     link.symlink_to(nowhere)
     there = [(str(known), "File exists") for known in (path, store, link)]
     with Hub(place, store, asks=True) as hub:
-        client = hub.client()
-        assert client.ask(f"BACKUP {path}") == ["OK 2 10 2"]
+        assert hub.owner.ask(f"BACKUP {path}") == ["OK 2 10 2"]
         assert path.read_bytes() == store.read_bytes()
         assert mode(path) == 0o600
-        assert client.ask(f"BACKUP {path}2\r") == ["OK 2 10 2"]
+        assert hub.owner.ask(f"BACKUP {path}2\r") == ["OK 2 10 2"]
         for name, why in BAD_COPIES + there:
-            assert client.ask(f"BACKUP {name}") == [f"ERR hub Backup {why}"], name
-        client.send(b"BACKUP /no folder/\xff\n")
-        assert client.read() == ["ERR hub Backup the name isn't UTF-8"]
+            assert hub.owner.ask(f"BACKUP {name}") == [f"ERR hub Backup {why}"], name
+        hub.owner.send(b"BACKUP /no folder/\xff\n")
+        assert hub.owner.read() == ["ERR hub Backup the name isn't UTF-8"]
         assert path.read_bytes() == store.read_bytes()
         assert not nowhere.exists()
         # From here on the hub can't write so much.
         resource.prlimit(hub.process.pid, resource.RLIMIT_FSIZE, (8_192, 8_192))
-        assert client.ask(f"BACKUP {path}3") == ["ERR hub Backup File too large"]
+        assert hub.owner.ask(f"BACKUP {path}3") == ["ERR hub Backup File too large"]
         assert not Path(f"{path}3").exists()
     assert place.status(path) == "OK 2 10 2 -"
 
@@ -167,12 +166,11 @@ def test_slow_copy(place: Place, slow: Slowly, own: Path) -> None:
 def test_stopped_copies(slow: Slowly, store: Path, is_made: bool) -> None:
     """A hub that is stopped leaves no copy that isn't whole, or isn't checked."""
     with Hub(slow.place, store) as hub:
-        owner = hub.client()
-        begin_copy(owner, slow.path)
+        begin_copy(hub.owner, slow.path)
         if is_made:
             slow.make()
         assert hub.stop() == 0
-        assert owner.line() == (b"" if is_made else b"ERR hub Backup the hub ends\n")
+        assert hub.owner.line() == (b"" if is_made else b"ERR hub Backup the hub ends\n")
     assert not slow.path.exists()
 
 
@@ -182,18 +180,17 @@ def test_foreign_files(place: Place, slow: Slowly, store: Path, is_made: bool) -
     other = place.path("other")
     other.write_bytes(FOREIGN)
     with Hub(slow.place, store) as hub:
-        owner = hub.client()
-        begin_copy(owner, slow.path)
+        begin_copy(hub.owner, slow.path)
         if is_made:
             slow.make()
         other.replace(slow.path)
         if is_made:
             slow.check_on.touch()
-            reply, = owner.read()
+            reply, = hub.owner.read()
             assert reply.startswith("ERR hub Backup the copy is answered ERR 7 NotAStore")
         else:
             assert hub.stop() == 0
-            assert owner.read() == ["ERR hub Backup the hub ends"]
+            assert hub.owner.read() == ["ERR hub Backup the hub ends"]
         assert slow.path.read_bytes() == FOREIGN
         assert f"hub: {slow.path}: not removed: the file was replaced or removed" in hub.told()
 

@@ -145,9 +145,8 @@ def test_slow_lines(place: Place, two_imports: Path) -> None:
     if b"RECEIPT 2" in line:
         time.sleep({SLOW_SECONDS})""", ""))
     with Hub(slow, two_imports) as hub:
-        client = hub.client()
-        client.send(b"RECEIPT 1\nRECEIPT 2\nRECEIPT 1\n")
-        assert [client.read()[0].split(" ")[1] for _ in range(3)] == ["1", "2", "1"]
+        hub.owner.send(b"RECEIPT 1\nRECEIPT 2\nRECEIPT 1\n")
+        assert [hub.owner.read()[0].split(" ")[1] for _ in range(3)] == ["1", "2", "1"]
         # (Other lines may take over a second, too, where the machine has much to do.)
         told = re.findall(r"([0-9.]+) s for (.*)", "\n".join(hub.logged()))
         slow_ones = [line for seconds, line in told if float(seconds) >= SLOW_SECONDS]

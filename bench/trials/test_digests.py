@@ -79,18 +79,17 @@ def test_own_digests(place: Place, layout: int, rows: int) -> None:
     own = [[f"OK {place.digest(store, pin)}"] for pin in range(4)]
     assert len(set(map(str, own))) == 4
     with Hub(paged(place, rows), store, asks=True) as hub:
-        client = hub.asker()
         for pin, wanted in enumerate(own):
-            assert client.ask(f"AT {pin} DIGEST") == wanted
-        assert client.ask("DIGEST\r") == own[3]
+            assert hub.guest.ask(f"AT {pin} DIGEST") == wanted
+        assert hub.guest.ask("DIGEST\r") == own[3]
         # The session's pin, which AT and a refusal leave as it is.
         for pin, wanted in enumerate(own):
-            client.send(b"PIN %d\nDIGEST\nAT 2 DIGEST\nPIN 4\nDIGEST\n" % pin)
-            replies = [client.read() for _ in range(5)]
+            hub.guest.send(b"PIN %d\nDIGEST\nAT 2 DIGEST\nPIN 4\nDIGEST\n" % pin)
+            replies = [hub.guest.read() for _ in range(5)]
             assert replies == [[f"OK {pin}"], wanted, own[2], ["ERR 44 PinRange"], wanted]
         assert hub.asker().ask("DIGEST") == own[3]
-        client.send(b"UNPIN\nDIGEST\nPIN\nDIGEST\n")
-        assert [client.read() for _ in range(4)] == [["OK"], own[3], ["OK 3"], own[3]]
+        hub.guest.send(b"UNPIN\nDIGEST\nPIN\nDIGEST\n")
+        assert [hub.guest.read() for _ in range(4)] == [["OK"], own[3], ["OK 3"], own[3]]
 
 
 def test_order(place: Place, store: Path) -> None:
@@ -204,13 +203,12 @@ def test_stopped(place: Place, store: Path) -> None:
     """A hub that is stopped doesn't finish a digest, and ends well: its client is told nothing."""
     held = Held(place, 3)
     with Hub(held.place, store) as hub:
-        client = hub.client()
-        client.send(b"DIGEST\nMETRICS\n")
+        hub.owner.send(b"DIGEST\nMETRICS\n")
         held.wait()
         hub.process.send_signal(signal.SIGTERM)
         until("no other one is served", lambda: not hub.socket.exists())
         held.go_on()
-        assert (client.line(), hub.end()) == (b"", 0)
+        assert (hub.owner.line(), hub.end()) == (b"", 0)
 
 
 def test_refused_pages(place: Place, store: Path) -> None:
@@ -223,12 +221,10 @@ def test_refused_pages(place: Place, store: Path) -> None:
         os.write(1, b"ERR 2 DiskFault\\n")
         break""", ""))
     with Hub(failing, store) as hub:
-        client = hub.client()
-        assert client.ask("DIGEST") == ["ERR 2 DiskFault"]
-        assert (client.line(), hub.end()) == (b"", 1)
+        assert hub.owner.ask("DIGEST") == ["ERR 2 DiskFault"]
+        assert (hub.owner.line(), hub.end()) == (b"", 1)
     with Hub(place, store) as hub:
         flip(store)
-        client = hub.client()
-        assert client.ask("AT 1 DIGEST") == ["ERR 8 Damaged"]
-        assert client.ask("STATUS") == ["OK 2 10 2 - Damaged"]
+        assert hub.owner.ask("AT 1 DIGEST") == ["ERR 8 Damaged"]
+        assert hub.owner.ask("STATUS") == ["OK 2 10 2 - Damaged"]
         assert hub.stop() == 1

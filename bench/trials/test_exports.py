@@ -162,11 +162,10 @@ def is_whole(path: Path, place: Place, hub: Hub) -> None:
     with contextlib.closing(sqlite3.connect(path)) as file:
         told = file.execute("select number, receipt from imports order by number").fetchall()
     counts = Counter(number for _, _, number in found)
-    client = hub.asker()
-    imports = int(client.ask("STATUS")[0].split()[1])
+    imports = int(hub.guest.ask("STATUS")[0].split()[1])
     assert [number for number, _ in told] == [*range(1, imports + 1)]
     for number, receipt in told:
-        assert [receipt] == client.ask(f"RECEIPT {number}")
+        assert [receipt] == hub.guest.ask(f"RECEIPT {number}")
         assert counts[number] == int(receipt.split()[2])
 
 
@@ -186,19 +185,18 @@ def test_followers_that_are_begun_again(place: Place) -> None:
     place.link_releases()
     path, journal = place.path("file"), place.path("file-journal")
     with Hub(place, store, releases=place.releases, asks=True) as hub:
-        client = hub.client()
         for name, new in (("r1", 6), ("r2", 4)):
-            assert client.ask(f"IMPORT {name}")[0].split()[2] == str(new)
+            assert hub.owner.ask(f"IMPORT {name}")[0].split()[2] == str(new)
             assert len(followed(place, hub, "file")) == 1
             is_whole(path, place, hub)
-        assert client.ask("IMPORT many")[0] == f"OK 3 {MANY_ROWS} 0"
+        assert hub.owner.ask("IMPORT many")[0] == f"OK 3 {MANY_ROWS} 0"
         for _ in range(3):
             killed = Script(place, FOLLOW, hub.questions, path, "--limit", "1")
             harness.until("a follower writes", journal.exists)
             killed.process.kill()
             assert killed.ended()[0] == -signal.SIGKILL
             assert {number for _, _, number in rows_of(path)} == {1, 2}
-        assert client.ask("IMPORT r3")[0].startswith("OK 4 2 ")
+        assert hub.owner.ask("IMPORT r3")[0].startswith("OK 4 2 ")
         assert len(followed(place, hub, "file")) == 2
         is_whole(path, place, hub)
 

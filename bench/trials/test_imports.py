@@ -21,6 +21,7 @@ from harness import Ran, concept, has_strace, mode, until, write_release
 FIRST_LINE = "sctd imports 1\n"
 TIME = "[0-9]{4}-[0-9]{2}-[0-9]{2}T[0-9]{2}:[0-9]{2}:[0-9]{2}Z"
 NO_DIGEST, NOTHING = "-", "\t-" * 6
+CLIENT, TAKE = "examples/client.py", "examples/take_copy.py"
 # What the guide tells others to compute of a release.
 DIGEST = ("cd \"$1\" && find -L Terminology Refset -maxdepth 2 -type f -print0 2> /dev/null | "
           "LC_ALL=C sort -z | xargs -0 sha256sum -z | sha256sum")
@@ -80,10 +81,9 @@ def night_lines(made: Sequence[Path]) -> list[str]:
 def imported(place: Place, store: Path, made: Sequence[Path]) -> list[str]:
     """Imports releases of one folder by a hub, and answers the rows of its list."""
     with Hub(place, store, releases=made[0].parent) as hub:
-        client = hub.client()
         for release in made:
-            client.ask(f"IMPORT {release.name}")
-        return rows(client)
+            hub.owner.ask(f"IMPORT {release.name}")
+        return rows(hub.owner)
 
 
 def begins(place: Place, store: Path, tells: Sequence[str], lines: Sequence[str]) -> None:
@@ -200,11 +200,10 @@ def test_end_while_a_digest_is_computed(place: Place) -> None:
     store = place.make_store()
     stuck = "                self.is_stopped.wait()\n"
     with Hub(place.changed("imports.py", DIGESTING, stuck), store) as hub:
-        client = hub.client()
-        client.send(b"IMPORT r1\n")
+        hub.owner.send(b"IMPORT r1\n")
         until("the import", lambda: hub.client().ask("STATUS") == ["OK 1 6 1 -"])
         assert hub.stop() == 0
-        assert client.read() == ["OK 1 6 0"]
+        assert hub.owner.read() == ["OK 1 6 0"]
         assert "r1: no digest of its files: the hub ends\n" in hub.told()
     assert listed(store) == [line_of(1, RELEASES / "r1", 6, digest=NO_DIGEST)]
 
@@ -238,14 +237,13 @@ def listed_whole(store: Path) -> list[str]:
 
 def import_until_killed(hub: Hub, releases: list[Path], seconds: float) -> set[int]:
     """Imports until the hub is killed, and answers which imports were answered."""
-    client = hub.client()
-    client.send("".join(f"IMPORT {one.name}\n" for one in releases).encode())
+    hub.owner.send("".join(f"IMPORT {one.name}\n" for one in releases).encode())
     time.sleep(seconds)
     for number in hub.programs():
         os.kill(number, 9)
     hub.process.kill()
     hub.process.wait()
-    return {int(line.split()[1]) for line in iter(client.line, b"") if line.startswith(b"OK ")}
+    return {int(line.split()[1]) for line in iter(hub.owner.line, b"") if line.startswith(b"OK ")}
 
 
 def take_back(place: Place, store: Path, imports: int) -> None:
@@ -266,24 +264,21 @@ def test_two_take_backs(place: Place) -> None:
     four = night_lines([*made[:3], made[5]])
     with Hub(place, store, releases=place.releases) as hub:
         assert told(hub) == [taken % (4, 5)]
-        client = hub.client()
-        assert rows(client) == four[:3]
-        assert client.ask("IMPORT n6") == ["OK 4 1 0"]
-        assert rows(client) == four
+        assert rows(hub.owner) == four[:3]
+        assert hub.owner.ask("IMPORT n6") == ["OK 4 1 0"]
+        assert rows(hub.owner) == four
     # One that no hub made.
     place.import_one(store, made[6])
     with Hub(place, store, releases=place.releases) as hub:
         assert told(hub) == ["it has no line for 1 of 5 imports, the first of which is 5"]
-        client = hub.client()
-        assert rows(client) == [*four, "5" + NOTHING]
-        assert client.ask("IMPORT n8") == ["OK 6 1 0"]
+        assert rows(hub.owner) == [*four, "5" + NOTHING]
+        assert hub.owner.ask("IMPORT n8") == ["OK 6 1 0"]
     take_back(place, store, 2)
     last = night_lines([*made[:2], made[8]])
     with Hub(place, store, releases=place.releases) as hub:
         assert told(hub) == [taken % (3, 6)]
-        client = hub.client()
-        assert client.ask("IMPORT n9") == ["OK 3 1 0"]
-        assert rows(client) == last
+        assert hub.owner.ask("IMPORT n9") == ["OK 3 1 0"]
+        assert rows(hub.owner) == last
     begins(place, store, [], last)
     assert [line for line in listed(store) if line.startswith("back")] == ["back\t3", "back\t2"]
 
@@ -339,21 +334,19 @@ def test_other_programs(place: Place, change: Callable[[Path], object], told_mea
     """Whatever another program does with the list, imports go on, and it is told."""
     store, made = place.make_store(), place.write_nights(4)
     with Hub(place, store, releases=place.releases) as hub:
-        client = hub.client()
         for release in made[:2]:
-            client.ask(f"IMPORT {release.name}")
+            hub.owner.ask(f"IMPORT {release.name}")
         change(list_of(store))
-        assert client.ask("IMPORT n3") == ["OK 3 1 0"]
-        assert client.ask("STATUS") == ["OK 3 3 3 -" + " Unlisted" * (not is_written)]
+        assert hub.owner.ask("IMPORT n3") == ["OK 3 1 0"]
+        assert hub.owner.ask("STATUS") == ["OK 3 3 3 -" + " Unlisted" * (not is_written)]
         lines = night_lines(made)
-        assert rows(client) == lines[:3]
+        assert rows(hub.owner) == lines[:3]
         said, = told(hub)
         assert told_meanwhile in said
     with Hub(place, store, releases=place.releases) as hub:
-        client = hub.client()
-        assert client.ask("IMPORT n4") == ["OK 4 1 0"]
+        assert hub.owner.ask("IMPORT n4") == ["OK 4 1 0"]
         unwritten = [f"{number}{NOTHING}" for number in (1, 2, 3)]
-        assert rows(client) == (lines if is_written else [*unwritten, lines[3]])
+        assert rows(hub.owner) == (lines if is_written else [*unwritten, lines[3]])
         first = told(hub)[:1]
         assert all(any(text in one for text in told_at_start) for one in first)
         assert bool(first) == bool(told_at_start)
@@ -382,22 +375,21 @@ def test_limit_of_a_file(place: Place) -> None:
     # (The log of the hub is a file, too, which may grow.)
     list_of(store).write_text(FIRST_LINE + NO_IMPORTS * 1_000, encoding="utf-8")
     with Hub(place, store, releases=place.releases) as hub:
-        client = hub.client()
-        client.ask("IMPORT n1")
+        hub.owner.ask("IMPORT n1")
         before = list_of(store).read_bytes()
         # (Some of a line can be written.)
         limit_file(hub, len(before) + 20)
         for number in (2, 3):
-            assert client.ask(f"IMPORT n{number}") == [f"OK {number} 1 0"]
-            assert client.ask("STATUS") == [f"OK {number} {number} {number} - Unlisted"]
+            assert hub.owner.ask(f"IMPORT n{number}") == [f"OK {number} 1 0"]
+            assert hub.owner.ask("STATUS") == [f"OK {number} {number} {number} - Unlisted"]
             assert list_of(store).read_bytes() == before
         assert told(hub) == [f"{number} lines aren't written: File too large" for number in (1, 2)]
-        assert "ROW sctd_unlisted 2" in client.ask("METRICS")
-        assert rows(client) == lines[:3]
+        assert "ROW sctd_unlisted 2" in hub.owner.ask("METRICS")
+        assert rows(hub.owner) == lines[:3]
         limit_file(hub, resource.RLIM_INFINITY)
-        assert client.ask("IMPORT n4") == ["OK 4 1 0"]
-        assert client.ask("STATUS") == ["OK 4 4 4 -"]
-        assert rows(client) == lines
+        assert hub.owner.ask("IMPORT n4") == ["OK 4 1 0"]
+        assert hub.owner.ask("STATUS") == ["OK 4 4 4 -"]
+        assert rows(hub.owner) == lines
         assert [line for line in listed(store) if "back" not in line] == lines
 
 
@@ -417,24 +409,20 @@ def test_full_disk(place: Place, small_disk: Path) -> None:
     made, link = place.write_nights(4), on_small_disk(place, small_disk)
     filler = small_disk / "filler"
 
-    def fill() -> None:
+    with Hub(place, link, releases=place.releases) as hub:
+        hub.owner.ask("IMPORT n1")
         # The list has a block of its own: what is longer than that needs another one.
         with open(list_of(link), "ab") as file:
             file.write(NO_IMPORTS.replace("0", "9", 1).encode() * 140)
-        with open(filler, "wb", buffering=0) as file, contextlib.suppress(OSError):
+        with open(filler, "wb", buffering=0) as disk, contextlib.suppress(OSError):
             while True:
-                file.write(b"x" * BLOCK)
-
-    with Hub(place, link, releases=place.releases) as hub:
-        hub.client().ask("IMPORT n1")
-        fill()
-        client = hub.client()
-        assert client.ask("IMPORT n2") == ["OK 2 1 0"]
-        assert client.ask("STATUS") == ["OK 2 2 2 - Unlisted"]
+                disk.write(b"x" * BLOCK)
+        assert hub.owner.ask("IMPORT n2") == ["OK 2 1 0"]
+        assert hub.owner.ask("STATUS") == ["OK 2 2 2 - Unlisted"]
         assert told(hub)[-1] == "1 lines aren't written: No space left on device"
         filler.unlink()
-        assert client.ask("IMPORT n3") == ["OK 3 1 0"]
-        assert client.ask("STATUS") == ["OK 3 3 3 -"]
+        assert hub.owner.ask("IMPORT n3") == ["OK 3 1 0"]
+        assert hub.owner.ask("STATUS") == ["OK 3 3 3 -"]
     with Hub(place, link) as hub:
         assert rows(hub.client()) == night_lines(made[:3])
 
@@ -447,11 +435,10 @@ def test_disk_without_a_right_to_write(place: Place, small_disk: Path) -> None:
         subprocess.run(["mount", "-o", f"remount,{how}", str(small_disk)], check=True)
 
     with Hub(place, link, releases=place.releases) as hub:
-        client = hub.client()
-        client.ask("IMPORT n1")
+        hub.owner.ask("IMPORT n1")
         mount_again("ro")
-        assert client.ask("IMPORT n2") == ["OK 2 1 0"]
-        assert client.ask("STATUS") == ["OK 2 2 2 - Unlisted"]
+        assert hub.owner.ask("IMPORT n2") == ["OK 2 1 0"]
+        assert hub.owner.ask("STATUS") == ["OK 2 2 2 - Unlisted"]
         assert told(hub) == ["1 lines aren't written: Read-only file system"]
         mount_again("rw")
         # As the hub ends, what is missing is written.
@@ -473,15 +460,14 @@ def test_copies_have_it(place: Place) -> None:
     store, made = place.make_store(), place.write_nights(3)
     copy, other = place.path("copy"), place.path("other")
     with Hub(place, store, releases=place.releases) as hub:
-        client = hub.client()
-        assert client.ask(f"BACKUP {other}") == ["OK 0 0 0"]
+        assert hub.owner.ask(f"BACKUP {other}") == ["OK 0 0 0"]
         assert not list_of(other).exists()
         for release in made[:2]:
-            client.ask(f"IMPORT {release.name}")
-        assert client.ask(f"BACKUP {copy}") == ["OK 2 2 2"]
-        client.ask("IMPORT n3")
+            hub.owner.ask(f"IMPORT {release.name}")
+        assert hub.owner.ask(f"BACKUP {copy}") == ["OK 2 2 2"]
+        hub.owner.ask("IMPORT n3")
         list_of(place.path("third")).write_text("somebody else's", encoding="utf-8")
-        assert client.ask(f"BACKUP {place.path('third')}") == [
+        assert hub.owner.ask(f"BACKUP {place.path('third')}") == [
             "ERR hub Backup the list of imports: File exists"]
         assert not place.path("third").exists()
     assert list_of(place.path("third")).read_text("utf-8") == "somebody else's"
@@ -490,9 +476,6 @@ def test_copies_have_it(place: Place) -> None:
     with Hub(place, copy, "--read-only", has_own=False, asks=True) as hub:
         assert told(hub) == []
         assert rows(hub.asker()) == listed(copy)
-
-
-TAKE = "examples/take_copy.py"
 
 
 def test_readers_have_it(place: Place) -> None:
@@ -508,9 +491,6 @@ def test_readers_have_it(place: Place) -> None:
         assert ran[:2] == (0, "OK 2\n"), ran.faults
     assert listed(reader) == listed(store)
     assert not (copy.exists() or list_of(copy).exists())
-
-
-CLIENT = "examples/client.py"
 
 
 def with_times(store: Path, *times: str) -> None:
@@ -580,15 +560,14 @@ def test_restore(place: Place, is_lost: bool) -> None:
     again = b"" if is_lost else b"OK 4 1 0\nOK 5 1 0\n"
     assert (done.returncode, done.stdout) == (0, b"OK\n" + again), done.stderr
     with Hub(place, store, releases=place.releases) as hub:
-        client = hub.client()
         assert told(hub) == []
         if is_lost:
-            assert client.ask("STATUS") == ["OK 3 3 3 -"]
-            assert client.ask("IMPORT n4") == ["OK 4 1 0"]
-            assert len(rows(client)) == 4
+            assert hub.owner.ask("STATUS") == ["OK 3 3 3 -"]
+            assert hub.owner.ask("IMPORT n4") == ["OK 4 1 0"]
+            assert len(rows(hub.owner)) == 4
         else:
-            assert client.ask("KNOWN 20201004") == ["OK 4 2020-10-04T01:00:00Z"]
-            assert client.ask("IMPORT n6") == ["OK 6 1 0"]
+            assert hub.owner.ask("KNOWN 20201004") == ["OK 4 2020-10-04T01:00:00Z"]
+            assert hub.owner.ask("IMPORT n6") == ["OK 6 1 0"]
             assert list_of(store).read_bytes().startswith(before)
     if not is_lost:
         assert place.digest(store, 5) == digest

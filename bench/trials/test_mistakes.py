@@ -64,6 +64,9 @@ CALLED = "0 CALLED 2000001 20200630 900000000000509007\n"
 TERM = b"Path"
 MISSING, FAILED, DAMAGED = "ERR 45 NoFolder", "ERR 2 DiskFault", "ERR 8 Damaged"
 IMPORT = ("import", "--quiet", "--store", "store", "--releases", "releases")
+READ_ONLY = "--read-only"
+# The releases that are beside a store, of a row each.
+NAMES = ("r1", "r2", "r3", "r4")
 
 # What stands at a path: a text, or what makes it.
 Made = str | Callable[[Path], object]
@@ -95,9 +98,9 @@ def write(folder: Path, files: Files) -> None:
 def place_with_releases(place: Place) -> Place:
     """The program, beside releases of a row each."""
     place.seconds = SECONDS
-    for number in range(1, 5):
-        write(place.releases / f"r{number}",
-              {f"Terminology/{CONCEPTS}": COLUMNS + ROOT_ROW % f"{2019 + number}0131", **USUAL})
+    for year, name in enumerate(NAMES, 2020):
+        rows = COLUMNS + ROOT_ROW % f"{year}0131"
+        write(place.releases / name, {f"Terminology/{CONCEPTS}": rows, **USUAL})
     return place
 
 
@@ -549,9 +552,6 @@ def test_other_user(place: Place, store: Path) -> None:
     assert place.run("status", "--store", store)[:2] == (0, "OK 0 0 0 -\n")
 
 
-NAMES = ("r1", "r2", "r3", "r4")
-
-
 def import_at_once(place: Place, holder: int | None = None) -> int:
     """Imports releases by processes of their own at once. The number of those that were answered
     OK. Where the id of the process that holds the store is known, each has to be refused and to
@@ -598,8 +598,6 @@ def test_beside_a_server(place: Place) -> None:
 
 
 # ---- A store that is only read
-
-READ_ONLY = "--read-only"
 
 
 def is_refused(place: Place, *words: str | Path) -> None:

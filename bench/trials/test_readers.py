@@ -218,8 +218,7 @@ def test_readings(place: Place) -> None:
         rows.append(["", day, "", bad, ""])
         wanted.append([*rows[-1], *[""] * 6, why])
     with with_release(place, "chains", CHAINS) as hub:
-        client = hub.client()
-        receipt = client.ask("RECEIPT 1")[0]
+        receipt = hub.owner.ask("RECEIPT 1")[0]
         header = ["Patient", " Date", "note", "CODE", "x"]
         found = read(place, hub, written([header, *rows]))
         assert found[0] == header + ADDED
@@ -228,7 +227,7 @@ def test_readings(place: Place) -> None:
         assert len(found) == len(rows) + 1
         # A later import changes nothing for those who pin the run.
         write_release(place.releases / "late", {"C": [concept(1, "20230131", 0)]})
-        assert client.ask("IMPORT late") == ["OK 2 1 0"]
+        assert hub.owner.ask("IMPORT late") == ["OK 2 1 0"]
         again = read(place, hub, written([header, *rows]), "--pin", "1")
         assert again == found
         now = read(place, hub, written([["code", "date"], [concept_id(1), "20120630"]]))
