@@ -1,5 +1,5 @@
-"""Part of refuse_growths.py: lines that have room for no byte of memory, then for 8 bytes, and so on
-until there is enough; and so a store is made, and opened."""
+"""Part of refuse_growths.py: lines that have room for no byte of memory, then for 8, and so
+on until there is enough; and so a store is made, and opened."""
 
 import mmap
 import os
@@ -14,7 +14,7 @@ from harness import RELEASES, Place, Ran, Server, Wrong, same
 from soak_model import Model
 
 # By how many bytes the room for a line grows from one try to the next, how often it is tried, and
-# the room where there is enough for everything; and the bytes between two sizes of room for a start.
+# the room where there is enough for all; and the bytes between two sizes of room for a start.
 STEP, TRIES, ALL = 8, 40_000, -1
 SIZE = 16
 NUMBERS = "qqq"
@@ -44,8 +44,8 @@ STORE = "store"
 
 
 class Start(NamedTuple):
-    """A run that makes a store or opens one: its name, its words and its input, what it writes, the files that
-    it begins with, what it may leave of them if it is refused, and with how many sizes it has to be."""
+    """A run that makes a store or opens one: its name, words and input, what it writes, the files
+    that it begins with, what a refusal may leave of them, and how many sizes have to be refused."""
 
     name: str
     words: tuple[str, ...]

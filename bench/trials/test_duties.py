@@ -124,8 +124,9 @@ def test_what_arrives(place: Place, store: Path) -> None:
 def test_days_to_come(hub: Hub) -> None:
     """A question about such a day is answered, and logged once a client."""
     client, other = hub.asker(), hub.client()
-    for line in ("GET C 1000004 20200131", "GET C 20991231 20200131", "TERMS 20200131 1 20991231",
-                 "PAGE C 20200131 20991231 1", "AT 1 DATES", "RECEIPT 1", "GET C 1000004 209912311"):
+    for line in ("GET C 1000004 20200131", "GET C 20991231 20200131", "AT 1 DATES", "RECEIPT 1",
+                 "TERMS 20200131 1 20991231", "PAGE C 20200131 20991231 1",
+                 "GET C 1000004 209912311"):
         client.ask(line)
     assert hub.logged() == []
     for line in ("AT 1 DELTA C 20200131 20991231 - 1", "GET C 1000004 20991230"):

@@ -38,8 +38,9 @@ def runs() -> list[Sequence[str]]:
 def begun(program: Path, hub: Path, names: Sequence[str]) -> subprocess.Popen[bytes]:
     script = BENCH / "trials" / "by_pytest.py"
     return subprocess.Popen(
-        [sys.executable, script, program, "--service", "--hub", hub, *names], stdout=subprocess.PIPE,
-        stdin=subprocess.DEVNULL, stderr=subprocess.STDOUT, start_new_session=True)
+        [sys.executable, script, program, "--service", "--hub", hub, *names],
+        stdin=subprocess.DEVNULL, stdout=subprocess.PIPE, stderr=subprocess.STDOUT,
+        start_new_session=True)
 
 
 def ended(run: subprocess.Popen[bytes]) -> Outcome:
