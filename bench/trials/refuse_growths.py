@@ -10,13 +10,16 @@ run makes fewer calls. RELIABILITY says what has to hold of each run, under "Mem
 
 LINES random lines, as those of soak.py, are served again and again on a copy of a store; behind
 them it asks for all that a refusal might have made the program forget. With `script` the lines are
-those of the demonstration and some more, on a store without rows, and then its questions on the
-store that they leave. With `tasks` each task of the command line is done so, and so are words that
-are none, and helps. With `room` each call of the store is made by a line that has room for no byte
-of memory, then for 8 bytes, and so on until it isn't refused; and so a store is made, and opened.
-
-It needs Linux, glibc and a C compiler. Where there is /dev/shm its files lie there, since syncs
-take most of the time otherwise.
+those of the demonstration, with a merge that is given up and a second step of its merge, further
+questions, and an import and a merge behind them: all of them on a store without rows, and then its
+questions on the store that they leave. Each line that takes memory has to be refused in some run,
+and a run that is refused at its start leaves the store as it was. In each tenth run the line that
+is refused comes a second time: then it is answered. In further runs from each seventh call on 40 in
+a row are refused, and from each tenth on all. With `tasks` each task of the command line is done
+so, and so are words that are none, and helps. With `room` each call of the store is made by a line
+that has room for no byte of memory, then for 16 bytes, and so on until it isn't refused; and so a
+store is made, and opened. Each is wanted to be refused so many times. It needs Linux, glibc and a C
+compiler. Where there is /dev/shm its files lie there, since syncs take most of the time otherwise.
 """
 
 import shutil

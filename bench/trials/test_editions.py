@@ -55,7 +55,7 @@ def write_snapshot(package: Path) -> None:
 @pytest.fixture(scope="module")
 def sound(tried: Place) -> Path:
     """A sound package of all sorts of files."""
-    package = tried.path("package")
+    package = tried.path("sound package")
     rf2.write_package(str(package / "Full"), rf2.Package(SEED), ROWS)
     write_snapshot(package)
     return package
