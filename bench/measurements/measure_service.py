@@ -38,9 +38,9 @@ from measure_gateway import (  # noqa: E402
     MS, VERSION, YEARS, Asked, Connection, HttpClient, HubClient, Taken, concepts, lookup,
     make_store, options_of, question, request)
 from measure_harness import child_of, print_head, print_row  # noqa: E402
-from harness import tell  # noqa: E402
+from harness import Threads, tell  # noqa: E402
 from proxy_harness import (  # noqa: E402
-    HOST, NGINX, OPENSSL, Client, Clients, Process, Proxy, free_ports, gateway_words, hub_words,
+    HOST, NGINX, OPENSSL, Client, Process, Proxy, free_ports, gateway_words, hub_words,
     need, open_folder, ready, stop)
 
 GATEWAYS, CLIENTS, EXPANDING, RESTARTED = 3, 64, 3, 4
@@ -157,7 +157,7 @@ class Service:
             stop(one)
 
 
-class Restarting(Clients):
+class Restarting(Threads):
     """Clients of nginx, and how long each answer was waited for."""
 
     def __init__(self, service: Service) -> None:

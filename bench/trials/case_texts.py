@@ -2,14 +2,12 @@
 parts and releases that they name. A part of try_cases.py."""
 
 import re
-import sys
 from collections.abc import Iterator, Mapping
 from pathlib import Path
 from typing import NamedTuple, Optional
 
-TOP = Path(__file__).resolve().parents[2]
-sys.path.append(str(TOP / "bench" / "measurements"))
-import make_release as rf2  # noqa: E402
+from harness import TOP
+import make_release as rf2  # harness.py looks for it.
 
 # The files of transcripts; the releases that all of them share, and pieces that have to fail.
 FOLDER = TOP / "bench" / "cases"
@@ -26,8 +24,6 @@ MEMBERS, DELTA, DAY = "Refset/Content/der2_%sRefset_Example{}", "Delta", "202001
 ESCAPES = {"n": b"\n", "r": b"\r", "t": b"\t"}
 ESCAPED = re.compile(rb"\\(?:([nrt])|x([0-9a-f]{2})|\(([^*]*)\*(\d+)\))")
 BLOCKS = ("case", "part", "release")
-# The last line of a reply begins with one of these words.
-LAST_WORDS = ("OK", "END", "ERR")
 
 
 class Fault(Exception):
@@ -81,7 +77,6 @@ def reply(text: str) -> str:
 
 
 def unquoted(line: Line, text: str) -> bytes:
-    """The bytes of a text in quotes."""
     if len(text) < 2 or text[0] + text[-1] != '""':
         raise Fault(line.number, "a text in quotes is wanted")
 
@@ -134,7 +129,6 @@ def write_release(folder: Path, files: dict[str, bytes]) -> None:
 
 
 def blocks_of(text: str) -> Iterator[Block]:
-    """The cases, parts and releases of a file."""
     block: Optional[Block] = None
     for number, written in enumerate(text.split("\n"), 1):
         word, _, rest = written.partition(" ")
@@ -157,14 +151,12 @@ def files_of_cases() -> list[Path]:
 
 
 def names_of_cases() -> list[str]:
-    """The names of the cases in all files."""
     texts = (path.read_text(encoding="utf-8") for path in files_of_cases())
     return [block.name for text in texts for block in blocks_of(text) if block.kind == "case"]
 
 
 class File:
-    """A file of transcripts: its cases, its parts and its releases, with those that all files
-    share."""
+    """The cases, the parts and the releases of a file, with those that all files share."""
 
     def __init__(self, text: str, shared: Mapping[str, Block]) -> None:
         self.cases: list[Block] = []
@@ -196,7 +188,6 @@ class File:
                 yield from line.rest.split(" ")
 
     def part(self, line: Line) -> list[Line]:
-        """The lines of the part that a line asks for."""
         found = self.parts.get(line.rest)
         if found is None:
             raise Fault(line.number, "there is no part of this name")
@@ -204,7 +195,6 @@ class File:
         return found.lines
 
     def check_parts(self) -> None:
-        """Whether some case asked for each part."""
         for name, block in self.parts.items():
             if name not in self.asked:
                 raise Fault(block.number, "no case asks for the part")

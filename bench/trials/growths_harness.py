@@ -6,9 +6,9 @@ import os
 import threading
 from concurrent.futures import ThreadPoolExecutor
 from pathlib import Path
-from typing import Callable, Iterator, NamedTuple, Optional, Sequence
+from typing import Callable, NamedTuple, Optional, Sequence
 
-from harness import LAST_WORDS, Place, Ran, Wrong
+from harness import Place, Ran, Wrong
 from moments import compiled
 
 # How many runs go on at a time, and how much of what one wrote is told.
@@ -33,16 +33,6 @@ def ways_to_be_refused(store: str, *others: str) -> list[tuple[str, str]]:
     return ways + [(DISK_FAULT, f"sctd: {name}: out of memory\n") for name in (store, *others)]
 
 
-def replies_in(output: str) -> Iterator[list[str]]:
-    """The lines of each reply."""
-    reply: list[str] = []
-    for line in output.split("\n")[:-1]:
-        reply.append(line)
-        if line.split(" ")[0] in LAST_WORDS:
-            yield reply
-            reply = []
-
-
 def told(ran: Ran) -> str:
     return f"status {ran.status}, {ran.output[-TOLD:]!r}, {ran.faults[-TOLD:]!r} on standard error"
 
@@ -62,10 +52,9 @@ class Program:
         if refusals is not None:
             around.update(LD_PRELOAD=str(self.library), REFUSED=str(mark),
                           REFUSE=str(refusals.first), REFUSE_COUNT=str(refusals.how_many))
-        ran, was_refused = Place(self.program, folder).run(*words, given=given, around=around), False
-        if mark.exists():
-            mark.unlink()
-            was_refused = True
+        ran = Place(self.program, folder).run(*words, given=given, around=around)
+        was_refused = mark.exists()
+        mark.unlink(missing_ok=True)
         return ran, was_refused
 
 

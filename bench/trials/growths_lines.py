@@ -9,9 +9,9 @@ from typing import Iterable, NamedTuple, Optional, Sequence
 
 import soak
 from case_texts import FOLDER
-from growths_harness import (ALL_BEHIND, ALONE, OUT_OF_MEMORY, Program, Refusals, replies_in, told,
-                             try_each, ways_to_be_refused)
-from harness import RELEASES, Place, Ran, Wrong
+from growths_harness import (ALL_BEHIND, ALONE, OUT_OF_MEMORY, Program, Refusals, told, try_each,
+                             ways_to_be_refused)
+from harness import RELEASES, Place, Ran, Wrong, replies_in
 from soak_model import KINDS, SUBJECTS, File, Model, Reply
 
 import make_release as rf2  # soak.py looks for it.
@@ -39,9 +39,8 @@ class Session:
 
     def __init__(self, program: Program, folder: Path, count: int, seed: int) -> None:
         self.made = soak.Soak(str(program.program), seed, str(folder))
-        self.keeps_all: bool = self.made.is_of_layout_three()
         self.store = Path(self.made.store)
-        layout = "3" if self.keeps_all else "2"
+        layout = max(self.made.layout, "2")
         Place(program.program, folder).done("init", "--store", self.store, "--layout", layout)
         self.lines: list[str] = []
         for _ in range(count):
@@ -51,21 +50,21 @@ class Session:
 
     def questions(self) -> list[str]:
         """What is asked behind the random lines, by a session that they don't pin."""
-        model, day = self.made.model, soak.LAST_DATE
-        concepts, refsets, imports = self.column("D", 4), self.column("M", 4), model.state.imports
+        model, day, column = self.made.model, soak.LAST_DATE, self.made.column
+        concepts, refsets, imports = column("D", 4), column("M", 4), model.state.imports
         forms: list[tuple[str, Iterable[object]]] = [
-            ("TERMS {day} 1000 {}", sorted({term[0].casefold() for term in self.column("D", 7)})),
-            ("CHILDREN {} {day}", self.column("R", 5)),
-            ("DESCENDANTS {} {day}", self.column("R", 5)[:5]),
-            ("ANCESTORS {} {day}", self.column("R", 4)[:5]),
-            ("REPLACED {} {day}", self.column("A", 5)),
-            ("REPLACES {} {day}", self.column("A", 6)[:5]),
+            ("TERMS {day} 1000 {}", sorted({term[0].casefold() for term in column("D", 7)})),
+            ("CHILDREN {} {day}", column("R", 5)),
+            ("DESCENDANTS {} {day}", column("R", 5)[:5]),
+            ("ANCESTORS {} {day}", column("R", 4)[:5]),
+            ("REPLACED {} {day}", column("A", 5)),
+            ("REPLACES {} {day}", column("A", 6)[:5]),
             ("MEMBERS {} {day} - 10", refsets), ("VALUES {} {day} - 3", refsets),
             ("RECEIPT {}", range(1, imports + 1)), ("AT {} DATES", (0, imports))]
         forms += [(f"CALLED {{}} {{day}} {language}", concepts[:20]) for language in rf2.LANGUAGES]
         for kind, place in SUBJECTS.items():
-            forms += [(f"ABOUT {kind} {{}} {{day}}", self.column(kind, place)[:20]),
-                      (f"TIMELINE {kind} {{}}", self.column(kind, place)[:5])]
+            forms += [(f"ABOUT {kind} {{}} {{day}}", column(kind, place)[:20]),
+                      (f"TIMELINE {kind} {{}}", column(kind, place)[:5])]
         for kind in KINDS:
             forms += [(f"HISTORY {kind} {{}}", self.made.names(kind)[:20]),
                       (f"DELTA {kind} 20191231 {{}} - 10", [day])]
@@ -73,11 +72,6 @@ class Session:
         for line in lines:
             model.reply(line)
         return lines
-
-    def column(self, kind: str, place: int) -> list[str]:
-        """What a column of a kind has, in any version of a component."""
-        of = self.made.model.kinds[kind].of
-        return sorted({columns[place] for dates in of.values() for _, columns in dates.values()})
 
 
 class Served(NamedTuple):
@@ -108,15 +102,12 @@ class Runs:
 
     def __init__(self, program: Program, folder: Path, served: Served) -> None:
         self.program, self.folder, self.served = program, folder, served
-        self.never = {line for line in served.lines if self.is_never_refused(line)}
+        self.never = {line for line in served.lines if NEVER.match(line)
+                      or Model({}).reply(line)[-1].startswith(NONE_READ)}
         self.untouched = served.store.read_bytes()
         # The stores that were looked at, with what they have to hold.
         self.looked_at: set[tuple[bytes, str, str]] = set()
         self.outcomes: dict[int, list[Outcome]] = {ALONE: [], IN_A_ROW: [], ALL_BEHIND: []}
-
-    def is_never_refused(self, line: str) -> bool:
-        said = Model({}).reply(line)[-1]
-        return bool(NEVER.match(line)) or said.startswith(NONE_READ)
 
     def model(self) -> Model:
         """The model of the store that a run begins with."""
@@ -128,14 +119,12 @@ class Runs:
 
     def serve(self, folder: Path, lines: Sequence[str],
               refusals: Optional[Refusals] = None) -> tuple[Ran, bool]:
-        """Serves lines from the store in a folder."""
         words = ["serve", "--store", "store", "--releases", str(self.served.releases)]
         given = "".join(line + "\n" for line in lines)
         return self.program.run(words, folder, given, refusals)
 
     def check(self, model: Model, lines: Sequence[str], replies: Sequence[Reply]) -> list[int]:
-        """Compares the replies of a run, and gives the places of the lines that were refused: these
-        aren't told to the model."""
+        """Compares replies, and gives the places of refused lines, which the model isn't told."""
         refused = []
         for place, (line, said) in enumerate(zip(lines, replies)):
             if said == REFUSED:
@@ -152,7 +141,7 @@ class Runs:
         folder.mkdir(exist_ok=True)
         shutil.copyfile(self.served.store, folder / "store")
         ran, was_refused = self.serve(folder, lines, refusals)
-        replies = list(replies_in(ran.output))
+        replies = replies_in(ran.output)
         model = self.model()
         if was_refused and ran.status == 1 and ran[1:] in ways_to_be_refused("store"):
             if (folder / "store").read_bytes() != self.untouched:
@@ -175,7 +164,7 @@ class Runs:
             return
         lines = ["0 STATUS"] + ["0 PAGE %s 99991231 - 1000" % kind for kind in KINDS]
         ran, _ = self.serve(folder, lines)
-        if list(replies_in(ran.output)) != [model.reply(line) for line in lines]:
+        if replies_in(ran.output) != [model.reply(line) for line in lines]:
             raise Wrong("another store afterwards")
         self.looked_at.add(seen)
 
@@ -235,8 +224,7 @@ class Runs:
         return True
 
     def have_imports(self, several: Sequence[Outcome]) -> bool:
-        """Whether all imports were refused in one of these runs and one came in another, if the
-        lines have any."""
+        """Whether one of these runs refused all imports and another made one, if there are any."""
         before = self.model().state.imports
         came = {outcome.imports > before for outcome in several if outcome.refused}
         are_there = any(outcome.imports > before for outcome in self.outcomes[ALONE])
@@ -304,8 +292,7 @@ def runs_of_script(program: Program, folder: Path, releases: Path,
 
 
 def runs_of_session(program: Program, folder: Path, count: int, seed: int) -> list[Runs]:
-    """The runs of random lines."""
     session = Session(program, folder, count, seed)
     made = session.made.releases
     return [Runs(program, folder, Served(session.lines, Path(made.folder), made.files,
-                                         session.store, keeps_all=session.keeps_all))]
+                                         session.store, keeps_all=session.made.model.keeps_all))]

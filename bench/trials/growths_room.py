@@ -1,5 +1,5 @@
-"""Part of refuse_growths.py: lines that have room for no byte of memory, then for 8 bytes, and so on
-until there is enough; and so a store is made, and opened."""
+"""Part of refuse_growths.py: lines that have room for no byte of memory, then for 8, and so
+on until there is enough; and so a store is made, and opened."""
 
 import mmap
 import os
@@ -14,7 +14,7 @@ from harness import RELEASES, Place, Ran, Server, Wrong, same
 from soak_model import Model
 
 # By how many bytes the room for a line grows from one try to the next, how often it is tried, and
-# the room where there is enough for everything; and the bytes between two sizes of room for a start.
+# the room where there is enough for all; and the bytes between two sizes of room for a start.
 STEP, TRIES, ALL = 8, 40_000, -1
 SIZE = 16
 NUMBERS = "qqq"
@@ -44,8 +44,8 @@ STORE = "store"
 
 
 class Start(NamedTuple):
-    """A run that makes a store or opens one: its name, its words and its input, what it writes, the files that
-    it begins with, what it may leave of them if it is refused, and with how many sizes it has to be."""
+    """A run that makes a store or opens one: its name, words and input, what it writes, the files
+    that it begins with, what a refusal may leave of them, and how many sizes have to be refused."""
 
     name: str
     words: tuple[str, ...]
@@ -68,17 +68,10 @@ class Room:
     def leave(self, room: int) -> None:
         struct.pack_into(NUMBERS, self.shared, 0, room, 0, 0)
 
-    def refused(self) -> int:
-        """How many requests there was no room for."""
-        return self.number(1)
-
-    def lacked(self) -> int:
-        """How many bytes one of these lacked at least."""
-        return self.number(2)
-
-    def number(self, place: int) -> int:
-        found: int = struct.unpack_from(NUMBERS, self.shared)[place]
-        return found
+    def counts(self) -> tuple[int, int]:
+        """How many requests lacked room, and how many bytes one of them lacked at least."""
+        _, refused, lacked = struct.unpack_from(NUMBERS, self.shared)
+        return refused, lacked
 
     def around(self, library: Path) -> dict[str, str]:
         return {**os.environ, "LD_PRELOAD": str(library), "ROOM": str(self.path)}
@@ -107,7 +100,7 @@ class Rooms:
         for refused in range(TRIES):
             room.leave(STEP * refused)
             said = server.ask(line)
-            has_lacked = room.refused() > 0
+            has_lacked = room.counts()[0] > 0
             room.leave(ALL)
             if said != REFUSED:
                 if said != self.model.reply(f"0 {line}"):
@@ -118,7 +111,6 @@ class Rooms:
         raise Wrong(f"{line!r}: refused {TRIES} times")
 
     def serve(self) -> None:
-        """Asks all lines of one server."""
         place = Place(self.program.program, self.folder)
         place.done("init", "--store", STORE)
         store, room = self.folder / STORE, Room(self.folder / "room")
@@ -144,10 +136,11 @@ class Rooms:
             room.leave(bytes_left)
             ran, _ = self.program.run(start.words, folder, start.given,
                                       around=room.around(self.program.library))
-            if not room.refused():
+            refused, lacked = room.counts()
+            if not refused:
                 break
             self.check_start(start, ran, files_in(folder))
-            bytes_left, runs = bytes_left + room.lacked(), runs + 1
+            bytes_left, runs = bytes_left + lacked, runs + 1
         if (ran.status, ran.output) != (0, start.output):
             raise Wrong(told(ran))
         print(f"{start.name}: in {runs} runs")
@@ -163,8 +156,7 @@ class Rooms:
             raise Wrong(told(ran))
 
     def starts(self) -> None:
-        """Makes a store and opens one: a refusal leaves nothing of the one, and the other as it
-        was."""
+        """Makes a store and opens one: a refusal leaves nothing, or the store as it was."""
         none: Files = {}
         store = ("--store", STORE)
         merged = {STORE: self.merged}

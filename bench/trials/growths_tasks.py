@@ -4,9 +4,9 @@ from collections import Counter
 from pathlib import Path
 from typing import Mapping, NamedTuple, Optional
 
-from growths_harness import (ALL_BEHIND, DISK_FAULT, OUT_OF_MEMORY, Program, Refusals, replies_in,
-                             told, try_each, ways_to_be_refused)
-from harness import Place, Ran, Wrong
+from growths_harness import (ALL_BEHIND, DISK_FAULT, OUT_OF_MEMORY, Program, Refusals, told,
+                             try_each, ways_to_be_refused)
+from harness import Place, Ran, Wrong, replies_in
 
 # The files in a folder, by their names.
 Files = Mapping[str, bytes]
@@ -24,8 +24,7 @@ UNCOMPARED = "sctd: warning: not all dates and modules could be compared with th
 
 
 class Task(NamedTuple):
-    """The words of a run, the store that it begins with, if any, what it is given, and its status
-    with all memory."""
+    """The words of a run, the store that it begins with, its input, its status with all memory."""
 
     words: str
     store: Optional[str] = None
@@ -73,7 +72,6 @@ def put(folder: Path, files: Files) -> None:
 
 
 def stores_in(program: Program, folder: Path) -> dict[Optional[str], Files]:
-    """The files that tasks begin with."""
     made: dict[Optional[str], Files] = {None: NONE}
     here = Place(program.program, folder)
     for name, layout, releases in ((TWO, "2", 2), (TWO_OF_THREE, "3", 2), (THREE, "2", 3)):
@@ -85,14 +83,11 @@ def stores_in(program: Program, folder: Path) -> dict[Optional[str], Files]:
     return made
 
 
-def is_extra(line: str) -> bool:
-    """Whether a line of faults says that there was no memory to find out more: of a folder that
-    couldn't be listed, or of dates that couldn't be compared."""
-    return line == UNCOMPARED or line.startswith(PASSED_OVER) and line.endswith((" ", "/"))
-
-
 def certain_faults(faults: str) -> list[str]:
-    return [line for line in faults.split("\n")[:-1] if not is_extra(line)]
+    """The lines of faults, without those that say that there was no memory to find out more: of a
+    folder that couldn't be listed, or of dates that couldn't be compared."""
+    return [line for line in faults.split("\n")[:-1] if line != UNCOMPARED
+            and not (line.startswith(PASSED_OVER) and line.endswith((" ", "/")))]
 
 
 class Trial:
@@ -142,18 +137,14 @@ class Trial:
         first, last = ran.faults[:-1].rpartition("\n")[::2]
         begun = certain_faults(first + "\n") if first else []
         way = (ran.output, last + "\n")
-        if ran.status != 1 or way not in self.ways() or begun != self.begun(len(begun)):
+        is_task = self.whole.status == 0 and "--help" not in self.words
+        ways = ways_to_be_refused(STORE, COPY) if is_task else [("", OUT_OF_MEMORY)]
+        # (What it had told by then it tells with all memory, too.)
+        is_usual = begun == certain_faults(self.whole.faults)[: len(begun)]
+        if ran.status != 1 or way not in ways or not is_usual:
             raise Wrong(told(ran))
         if left != self.before and not self.may_leave(way, begun, left, folder):
             raise Wrong("refused, and other files afterwards: %s" % told(ran))
-
-    def ways(self) -> list[tuple[str, str]]:
-        is_task = self.whole.status == 0 and "--help" not in self.words
-        return ways_to_be_refused(STORE, COPY) if is_task else [("", OUT_OF_MEMORY)]
-
-    def begun(self, count: int) -> list[str]:
-        """The first so many lines of faults with all memory."""
-        return certain_faults(self.whole.faults)[:count]
 
     def may_leave(self, way: tuple[str, str], begun: list[str], left: Files, folder: Path) -> bool:
         """Whether a task that was refused may have changed the files to these: to one without a
@@ -199,7 +190,7 @@ class Demonstration(Trial):
             raise Wrong("it left %s" % sorted(left))
         if ran in ((1, "", OUT_OF_MEMORY), (1, OUT_OF_MEMORY, ""), (1, DISK_FAULT, "")):
             return
-        usual, said = list(replies_in(self.whole.output)), list(replies_in(ran.output))
+        usual, said = replies_in(self.whole.output), replies_in(ran.output)
         if (ran.status, ran.faults) != (0, "") or len(said) != len(usual):
             raise Wrong(told(ran))
         first = next(reply for reply, wanted in zip(said, usual) if reply != wanted)

@@ -15,10 +15,12 @@ import socket
 import stat
 import subprocess
 import sys
+import threading
 import time
 from collections.abc import Callable, Iterable, Mapping, Sequence
+from functools import cached_property
 from pathlib import Path
-from typing import NamedTuple
+from typing import NamedTuple, Self
 
 TOP = Path(__file__).resolve().parents[2]
 sys.path += [str(TOP / "bench" / "measurements"), str(TOP / "packaging")]
@@ -27,6 +29,7 @@ from needs import MODULES, python_with  # noqa: E402
 
 # Three small releases, whose rows the guide shows.
 RELEASES = TOP / "docs" / "releases"
+SMALL_RELEASES = [RELEASES / name for name in ("r1", "r2", "r3")]
 HUB = "service/sctd-hub"
 # The status of a script that can't be run on this machine.
 NOT_RUN = 3
@@ -69,6 +72,15 @@ for line in sys.stdin.buffer:
 %s
 real.stdin.close()
 sys.exit(real.wait())
+"""
+# Stands before the program, whose calls with this first word wait until there is a file.
+WAITING = """
+import os, sys, time
+if sys.argv[1] == %r:
+    open(FOLDER + "/begun", "w").close()
+    while not os.path.exists(FOLDER + "/go on"):
+        time.sleep(0.01)
+os.execv(PROGRAM, [PROGRAM, *sys.argv[1:]])
 """
 # strace beside what it traces, which keeps its place as the trial's child.
 TRACE = ("strace", "-D", "-f", "-qq")
@@ -128,6 +140,16 @@ def tell(trial: Callable[[], object]) -> int:
     return 0
 
 
+def replies_in(output: str) -> list[list[str]]:
+    """The lines of each whole reply."""
+    replies: list[list[str]] = [[]]
+    for line in output.split("\n")[:-1]:
+        replies[-1].append(line)
+        if line.split(" ")[0] in LAST_WORDS:
+            replies.append([])
+    return replies[:-1]
+
+
 class Ran(NamedTuple):
     """How a call ended: its status, its reply, and the lines for people."""
 
@@ -137,8 +159,7 @@ class Ran(NamedTuple):
 
 
 class Place:
-    """What is tried: the program, and a tree with the folders `service` and `examples`; and a
-    folder to do it in."""
+    """What is tried: the program, and a tree with `service` and `examples`; and a folder for it."""
 
     def __init__(self, program: Path, folder: Path, tree: Path = TOP) -> None:
         self.program, self.folder, self.tree = program, folder, tree
@@ -174,9 +195,15 @@ class Place:
         place.program.chmod(0o755)
         return place
 
-    def link_release(self, name: str) -> None:
-        """Puts one of the small releases beside those that are made."""
-        self.releases.joinpath(name).symlink_to(RELEASES / name)
+    def link_releases(self, *names: str) -> None:
+        """Puts these small releases, or all, beside those that are made."""
+        for name in names or os.listdir(RELEASES):
+            self.releases.joinpath(name).symlink_to(RELEASES / name)
+
+    def write_nights(self, count: int, first: int = 1) -> list[Path]:
+        """Releases n1, n2 and so on, of a new row each."""
+        return [write_release(self.releases / f"n{number + 1}", {"C": [concept(first + number)]})
+                for number in range(count)]
 
     def contents(self) -> dict[str, bytes | None]:
         """The bytes of each file by its path, and none of what is something else."""
@@ -229,7 +256,7 @@ class Place:
     def small_store(self, layout: int = 2) -> Path:
         """A store with the three releases of the guide, 6, 4 and 2 new rows in a segment each."""
         store = self.make_store(layout=layout)
-        self.import_all(store, [RELEASES / name for name in ("r1", "r2", "r3")])
+        self.import_all(store, SMALL_RELEASES)
         return store
 
     def status(self, store: Path) -> str:
@@ -257,9 +284,9 @@ class Place:
     def digest_of(self, *releases: Path | str) -> str:
         """The digest that examples/digest.py computes from releases; those behind `--all` were
         imported into a store that keeps all their files."""
-        done = self.run_script("examples/digest.py", *releases)
-        same("how a digest is computed", (done.returncode, done.stderr), (0, b""))
-        return done.stdout.decode().rstrip("\n")
+        ran = self.run_script("examples/digest.py", *releases)
+        same("how a digest is computed", (ran.status, ran.faults), (0, ""))
+        return ran.output.rstrip("\n")
 
     def ask(self, store: Path, lines: Sequence[str]) -> list[list[str]]:
         """The replies to lines of one session."""
@@ -272,14 +299,18 @@ class Place:
         return self.tree / name
 
     def run_script(self, name: str, *words: str | Path, given: bytes = b"",
-                   **around: str) -> subprocess.CompletedProcess[bytes]:
+                   seconds: float = HUB_SECONDS, **around: str) -> Ran:
         """Runs a script of the tree to its end, with more words around it."""
         try:
-            return subprocess.run(
-                [sys.executable, self.script(name), *words], input=given, stdout=subprocess.PIPE,
-                stderr=subprocess.PIPE, timeout=HUB_SECONDS, check=False, env=AROUND | around)
+            done = subprocess.run([sys.executable, self.script(name), *words], input=given,
+                                  capture_output=True, timeout=seconds, check=False,
+                                  env=AROUND | around)
         except subprocess.TimeoutExpired:
-            raise Wrong(f"{name} hasn't ended after {HUB_SECONDS} seconds") from None
+            raise Wrong(f"{name} hasn't ended after {seconds} seconds") from None
+        # (A record that is read may have bytes that are no text.)
+        output, faults = (told.decode("utf-8", "surrogateescape")
+                          for told in (done.stdout, done.stderr))
+        return Ran(done.returncode, output, faults)
 
 
 class Server:
@@ -339,7 +370,6 @@ class Server:
         return reply
 
     def line(self, asked: str) -> str:
-        """The next line of a reply."""
         self.read(sys.maxsize, time.monotonic() + SECONDS, b"\n")
         if b"\n" not in self.unread:
             raise Wrong(f"{asked!r} ends the server, or isn't answered within {SECONDS} seconds")
@@ -398,6 +428,16 @@ class Hub:
         finally:
             self.close()
 
+    @cached_property
+    def owner(self) -> Client:
+        """One client on the socket of its owner."""
+        return self.client()
+
+    @cached_property
+    def guest(self) -> Client:
+        """One on the socket for questions."""
+        return self.asker()
+
     def client(self) -> Client:
         """A client on the socket of its owner."""
         self.clients.append(Client(self.socket))
@@ -443,8 +483,7 @@ class Hub:
         return NO_LINES.sub("", text, count=1) if NO_LINES.match(text) else text
 
     def logged(self, is_alone: bool = True) -> list[str]:
-        """The lines of its log, without their times, which stand alone or beside those of the
-        program."""
+        """The lines of its log, without their times; the program's may stand among them."""
         lines = self.told().splitlines()
         others = [line for line in lines if not TIME.match(line)]
         same("lines of the log without a time", others if is_alone else [], [])
@@ -452,8 +491,6 @@ class Hub:
 
 
 class Client:
-    """A connection to a hub."""
-
     def __init__(self, path: Path) -> None:
         self.sent = b""
         self.connection = socket.socket(socket.AF_UNIX)
@@ -497,7 +534,6 @@ class Client:
         return self.read()
 
     def has_reply(self, seconds: float = 0.0) -> bool:
-        """Whether something more can be read."""
         return bool(select.select([self.connection], [], [], seconds)[0])
 
     def leave(self) -> None:
@@ -505,6 +541,24 @@ class Client:
         self.connection.close()
 
     close = leave
+
+
+class Threads:
+    """Threads within a `with` block: each makes its calls of `ask` until it is over."""
+
+    def __init__(self, count: int, ask: Callable[[int], None]) -> None:
+        self.is_over = False
+        self.threads = [threading.Thread(target=ask, args=(number,)) for number in range(count)]
+
+    def __enter__(self) -> Self:
+        for thread in self.threads:
+            thread.start()
+        return self
+
+    def __exit__(self, *_: object) -> None:
+        self.is_over = True
+        for thread in self.threads:
+            thread.join(SECONDS)
 
 
 def mode(path: Path) -> int:
@@ -530,7 +584,6 @@ def children(number: int) -> set[int]:
 
 
 def until(what: str, is_so: Callable[[], object], seconds: float = HUB_SECONDS) -> None:
-    """Waits until something is so."""
     end = time.monotonic() + seconds
     while not is_so():
         if time.monotonic() > end:
@@ -548,8 +601,12 @@ def write_release(folder: Path, rows: Mapping[str, Sequence[str]], date: str = D
     return folder
 
 
+def head_of(sort: str) -> str:
+    """The first line of the files of a sort."""
+    return rf2.SORTS[sort].columns.replace(" ", "\t") + "\n"
+
+
 def concept_id(number: int) -> int:
-    """The SCTID of a made concept."""
     return rf2.sctid(1_000 + number, "00")
 
 

@@ -7,11 +7,12 @@ import sys
 from functools import cache
 from pathlib import Path
 
-SERVICE = Path(__file__).resolve().parents[2] / "service"
-sys.path.append(str(SERVICE))
+from harness import TOP as TREE, write_release
+
+sys.path.append(str(TREE / "service"))
 from tests.demo_releases import (  # noqa: E402
-    CASE_INSENSITIVE, COLUMNS, CORE, FILES, FULLY_SPECIFIED, INFERRED, IS_A, MODIFIER, PRIMITIVE,
-    ROOT, SYNONYM)
+    CASE_INSENSITIVE, COLUMNS, CORE, FULLY_SPECIFIED, INFERRED, IS_A, MODIFIER, PRIMITIVE, ROOT,
+    SYNONYM)
 from tests.release_files import Rows  # noqa: E402
 from make_release import sctid  # noqa: E402
 
@@ -46,7 +47,6 @@ def description(item: int, day: str, code: str, kind: str, term: str) -> Columns
 
 
 def release(number: int) -> dict[str, list[Columns]]:
-    """The rows of a release by their kinds."""
     day, found = day_of(number), dict[str, list[Columns]]((kind, []) for kind in COLUMNS)
     codes = [TOP, *CODES]
     for place, code in enumerate(codes):
@@ -74,10 +74,6 @@ def rows_of(pin: int) -> Rows:
 
 
 def write(folder: Path, count: int) -> None:
-    """Writes so many releases, each in a folder of its own."""
     for number in range(1, count + 1):
-        for kind, rows in release(number).items():
-            path = folder / ("r%d" % number) / (FILES[kind] % day_of(number))
-            path.parent.mkdir(parents=True, exist_ok=True)
-            lines = ["\t".join(COLUMNS[kind].split()), *("\t".join(row) for row in rows)]
-            path.write_bytes("".join(line + "\n" for line in lines).encode())
+        rows = {kind: ["\t".join(row) for row in found] for kind, found in release(number).items()}
+        write_release(folder / f"r{number}", rows, day_of(number))

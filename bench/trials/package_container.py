@@ -48,7 +48,6 @@ class Step(NamedTuple):
 
 
 def steps() -> list[Step]:
-    """The steps of package_steps.txt."""
     found = []
     for block in STEPS.read_text("utf-8").rstrip("\n").split("\n\n")[1:]:
         pairs = [line.partition(":")[::2] for line in block.split("\n")]

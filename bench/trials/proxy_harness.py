@@ -12,10 +12,9 @@ import ssl
 import subprocess
 import sys
 import tempfile
-import threading
-from collections.abc import Callable, Iterator, Mapping, Sequence
+from collections.abc import Iterator, Mapping, Sequence
 from pathlib import Path
-from typing import NamedTuple, Optional, Self
+from typing import NamedTuple, Optional
 
 from harness import NotRun, Wrong, children, same, until
 
@@ -96,8 +95,6 @@ def need(*tools: str) -> None:
 
 
 class Authority:
-    """An authority that signs certificates."""
-
     def __init__(self, place: Path, name: str) -> None:
         self.place, self.path = place, place / (name + ".pem")
         self.key = place / (name + ".key")
@@ -115,8 +112,7 @@ class Authority:
 
 
 class Proxy:
-    """A proxy with its configuration in packaging/, in which names, addresses and paths are those
-    of a trial."""
+    """A proxy with its configuration in packaging/, with a trial's names, addresses and paths."""
 
     def __init__(self, place: Path, gateways: Sequence[str], kind: Kind = NGINX) -> None:
         self.place, self.gateways, self.kind = place, gateways, kind
@@ -180,8 +176,6 @@ class Proxy:
 
 
 class Client:
-    """A client of a proxy with a certificate, or without one."""
-
     def __init__(self, proxy: Proxy, certificate: Optional[Path]) -> None:
         around = ssl.create_default_context(cafile=str(proxy.server.path))
         if certificate:
@@ -218,25 +212,6 @@ class Client:
         return answer.status, headers, answer.read()
 
 
-class Clients:
-    """Clients that ask in threads of their own within a `with` block: each makes its calls of `ask`
-    until it is over."""
-
-    def __init__(self, count: int, ask: Callable[[int], None]) -> None:
-        self.is_over = False
-        self.threads = [threading.Thread(target=ask, args=(seed,)) for seed in range(count)]
-
-    def __enter__(self) -> Self:
-        for thread in self.threads:
-            thread.start()
-        return self
-
-    def __exit__(self, *_: object) -> None:
-        self.is_over = True
-        for thread in self.threads:
-            thread.join(SECONDS * 2)
-
-
 @contextlib.contextmanager
 def open_folder() -> Iterator[Path]:
     """A new folder that everybody may go into: nginx's workers are another user's where it is
@@ -269,7 +244,6 @@ def gateway_words(questions: Path, listen: str, *words: str) -> list[str]:
 
 
 def stop(process: Process) -> None:
-    """Ends a process, if it runs."""
     if process.poll() is None:
         process.terminate()
         with contextlib.suppress(subprocess.TimeoutExpired):

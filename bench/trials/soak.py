@@ -131,12 +131,8 @@ class Releases:
 
     def body(self, sort: str) -> list[object]:
         """What a row of a sort says behind its first four columns."""
-        if sort == UNKEPT:
-            return self.edition.body("R")
-        if sort == OTHER_ASSOCIATIONS:
-            return self.edition.body("A")
         if sort not in ODD_SORTS:
-            return self.edition.body(sort)
+            return self.edition.body({UNKEPT: "R", OTHER_ASSOCIATIONS: "A"}.get(sort, sort))
         count = int(sort.removeprefix("Odd"))
         texts = [self.chance.choice(ODD_TEXTS) for _ in range(count)]
         refset = self.chance.choice([*rf2.VALUE_SETS, rf2.US_ENGLISH])
@@ -144,16 +140,13 @@ class Releases:
         return [refset, referenced, *texts]
 
     def component(self, sort: str) -> rf2.Component:
-        """A new component."""
         if sort in rf2.BASIC_SORTS or sort in rf2.FURTHER_SORTS:
             return self.edition.component(sort)
-        name = self.edition.name("R") if sort == UNKEPT else self.unique()
+        name = (self.edition.name("R") if sort == UNKEPT
+                else str(uuid.UUID(int=self.chance.getrandbits(128))))
         made = rf2.Component(name, sort, self.body(sort))
         self.edition.made[sort].append(made)
         return made
-
-    def unique(self) -> str:
-        return str(uuid.UUID(int=self.chance.getrandbits(128)))
 
     def columns(self, sort: str) -> Columns:
         """A new component, a new version of one, or a row that was written before. A new version
@@ -219,8 +212,7 @@ class Releases:
         return kept
 
     def spoil(self, rows: dict[str, list[Columns]]) -> dict[str, Fault]:
-        """Puts a wrong check digit into the first concept, or a fault into a row of a member, if
-        there is one."""
+        """Spoils the check digit of the first concept, or a row of a member, if there is one."""
         sorts = [sort for sort in rows if SORTS[sort].kind == "M" and rows[sort]]
         if rows["C"] and (not sorts or self.chance.random() < 0.5):
             first = list(rows["C"][0])
@@ -257,27 +249,18 @@ class Releases:
         return self.chance.choice(self.chance.choice(found)) if found else None
 
 
-def fields(line: str) -> Columns:
-    """The columns of a row in a reply."""
-    return line.removeprefix("ROW ").split("\t")
-
-
 class Soak:
-    """One run."""
-
     def __init__(self, program: str, seed: int, folder: str) -> None:
-        self.seed, self.place = seed, Place(Path(program), Path(folder))
+        self.place = Place(Path(program), Path(folder))
         self.chance, self.kind = random.Random(seed), "C"
         self.releases = Releases(self.chance, os.path.join(folder, "releases"))
-        self.model = Model(self.releases.files, keeps_all=self.is_of_layout_three())
+        # Some begin with a store of layout 3, and some with one of layout 1.
+        self.layout = ("2", "1", "3")[seed % 3]
+        self.model = Model(self.releases.files, keeps_all=self.layout == "3")
         self.store = os.path.join(folder, "store")
         self.serving: Optional[Server] = None
         self.took = 0.05
         self.counts = dict.fromkeys([*COUNTED, *ANSWERED], 0)
-
-    def is_of_layout_three(self) -> bool:
-        """Whether the run begins with a store of layout 3."""
-        return self.seed % 3 == 2
 
     def start(self) -> None:
         self.counts["openings"] += 1
@@ -285,7 +268,6 @@ class Soak:
 
     @property
     def served(self) -> Server:
-        """The program, once it was started."""
         assert self.serving is not None
         return self.serving
 
@@ -366,7 +348,6 @@ class Soak:
         return self.told_by(kind, SUBJECTS[kind]) if kind in SUBJECTS else self.component("C")
 
     def line(self) -> str:
-        """One line of one session."""
         chance, session = self.chance, self.chance.randrange(8)
         what = chance.random()
         if what < 0.16:
@@ -491,17 +472,16 @@ class Soak:
             self.check("9 DATES")
             self.check("9 DESCENDANTS %d %s" % (rf2.ROOT, LAST_DATE))
             for kind in KINDS:
-                self.pages(kind, self.chance.choice(DATES))
-                self.pages(kind, LAST_DATE)
+                for date in (self.chance.choice(DATES), LAST_DATE):
+                    self.pages("9 PAGE %s %s" % (kind, date), 1000)
         self.check("9 UNPIN")
 
-    def pages(self, kind: str, date: str) -> None:
-        after = "-"
-        while True:
-            said = self.check("9 PAGE %s %s %s 1000" % (kind, date, after))
-            if len(said) <= 1000:
-                return
-            after = fields(said[-2])[0]
+    def pages(self, question: str, limit: int, column: int = 0) -> None:
+        """Asks for pages up to an empty one, each from behind what a column of the last row has."""
+        said = self.check("%s - %d" % (question, limit))
+        while len(said) > 1:
+            after = said[-2].removeprefix("ROW ").split("\t")[column]
+            said = self.check("%s %s %d" % (question, after, limit))
 
     def check(self, line: str) -> list[str]:
         said = self.model.reply(line)
@@ -518,10 +498,10 @@ class Soak:
         self.check_all(["0 AT %d DATES" % number for number in range(imports + 1)])
         self.check_all(["0 AT %d DIGEST" % number for number in (0, imports // 2, imports)])
         self.check_all([self.around() for _ in range(ASKED_AROUND)])
-        for refset in self.refsets():
+        for refset in self.column("M", REFSET):
             for date in (self.chance.choice(DATES), LAST_DATE):
-                self.all_members(refset, date)
-                self.all_values(refset, date)
+                self.pages("0 MEMBERS %s %s" % (refset, date), MEMBERS_AT_ONCE)
+                self.pages("0 VALUES %s %s" % (refset, date), MEMBERS_AT_ONCE, REFERENCED)
 
     def around(self) -> str:
         """A question about what is around a concept on any day, as an import left it."""
@@ -532,24 +512,10 @@ class Soak:
         at = self.chance.randint(0, self.model.state.imports)
         return "0 AT %d %s" % (at, self.chance.choice(asked))
 
-    def refsets(self) -> list[str]:
-        """All reference sets that any version of a member is of."""
-        members = self.model.kinds["M"].of.values()
-        return sorted({columns[REFSET] for dates in members for _, columns in dates.values()})
-
-    def all_members(self, refset: str, date: str) -> None:
-        """Asks for all members of a reference set, as a client does."""
-        asked = "0 MEMBERS %s %s %%s %d" % (refset, date, MEMBERS_AT_ONCE)
-        said = self.check(asked % "-")
-        while len(said) > MEMBERS_AT_ONCE:
-            said = self.check(asked % fields(said[-2])[0])
-
-    def all_values(self, refset: str, date: str) -> None:
-        """Asks for all values of a reference set, each from behind the last component."""
-        said = self.check("0 VALUES %s %s - %d" % (refset, date, MEMBERS_AT_ONCE))
-        while len(said) > 1:
-            after = fields(said[-2])[REFERENCED]
-            said = self.check("0 VALUES %s %s %s %d" % (refset, date, after, MEMBERS_AT_ONCE))
+    def column(self, kind: str, place: int) -> list[str]:
+        """What a column of a kind has, in any version of a component."""
+        of = self.model.kinds[kind].of
+        return sorted({columns[place] for dates in of.values() for _, columns in dates.values()})
 
     def check_all(self, lines: list[str]) -> None:
         """Asks lines, fifty at a time."""
@@ -563,10 +529,7 @@ class Soak:
         return [next(iter(shown[name].values()))[1][0] for name in self.model.kinds[kind].ids]
 
     def run(self, seconds: int) -> None:
-        same("init", self.place.done("init", "--store", self.store, "--layout",
-                                     "3" if self.is_of_layout_three() else "2"), "OK")
-        if self.seed % 3 == 1:
-            self.make_layout_one()
+        self.make_store()
         self.start()
         begun = time.monotonic()
         while time.monotonic() < begun + seconds * (TIMES_LONGER if self.untried() else 1):
@@ -586,17 +549,18 @@ class Soak:
         self.everything()
         same("the end", (self.served.end(), self.served.unread), (0, b""))
 
-    def make_layout_one(self) -> None:
-        """Makes of the new store one of layout 1."""
-        with open(self.store, "r+b") as file:
-            for at in LAYOUTS_AT:
-                file.seek(at - 7)
-                if file.read(7) == b"SCTHIST":
-                    file.write(LAYOUT_ONE)
+    def make_store(self) -> None:
+        words = ["init", "--store", self.store, "--layout", max(self.layout, "2")]
+        same("init", self.place.done(*words), "OK")
+        if self.layout == "1":
+            with open(self.store, "r+b") as file:
+                for at in LAYOUTS_AT:
+                    file.seek(at - 7)
+                    if file.read(7) == b"SCTHIST":
+                        file.write(LAYOUT_ONE)
 
     def copy_in_layout_three(self) -> None:
-        """Between two servers a copy in layout 3 takes the place of the store, perhaps after a copy
-        that was killed."""
+        """Between two servers a copy in layout 3 replaces the store, perhaps after a killed one."""
         same("the end before a copy", (self.served.end(), self.served.unread), (0, b""))
         made = self.store + ".copy"
         words = ["copy", "--store", self.store, "--to", made, "--layout", "3"]

@@ -79,7 +79,6 @@ class Versions:
         return [d for dates in self.of.values() for d, v in dates.items() if first <= v[0] <= last]
 
     def keep_first(self, imports: int) -> None:
-        """Forgets what later imports brought."""
         for name in list(self.of):
             kept = {d: v for d, v in self.of[name].items() if v[0] <= imports}
             if kept:
@@ -164,7 +163,6 @@ def words_of(text: str) -> list[str]:
 
 
 def begins_each(wanted: Iterable[str], words: Sequence[str]) -> bool:
-    """Whether each wanted word begins one of the words."""
     return all(any(word.startswith(one) for word in words) for one in wanted)
 
 
@@ -179,7 +177,6 @@ class Model:
         self.pins: dict[int, int] = {}
 
     def reply(self, line: str) -> Reply:
-        """The lines of the reply."""
         if len(line.encode()) > LINE_LIMIT:
             return ["ERR 40 Long"]
         session, _, rest = line.partition(" ")

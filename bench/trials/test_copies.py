@@ -8,7 +8,8 @@ from pathlib import Path
 
 import pytest
 
-from harness import Client, Hub, Place, concept, concept_id, flip, mode, until, write_release
+from harness import WAITING, Client, Hub, Place, concept, concept_id, flip, mode, until
+from harness import write_release
 
 # How many clients ask while a copy is made, and how often each does while the hub waits.
 CLIENTS, ROUNDS = 50, 20
@@ -28,38 +29,29 @@ def test_copies(place: Place, store: Path) -> None:
     link.symlink_to(nowhere)
     there = [(str(known), "File exists") for known in (path, store, link)]
     with Hub(place, store, asks=True) as hub:
-        client = hub.client()
-        assert client.ask(f"BACKUP {path}") == ["OK 2 10 2"]
+        assert hub.owner.ask(f"BACKUP {path}") == ["OK 2 10 2"]
         assert path.read_bytes() == store.read_bytes()
         assert mode(path) == 0o600
-        assert client.ask(f"BACKUP {path}2\r") == ["OK 2 10 2"]
+        assert hub.owner.ask(f"BACKUP {path}2\r") == ["OK 2 10 2"]
         for name, why in BAD_COPIES + there:
-            assert client.ask(f"BACKUP {name}") == [f"ERR hub Backup {why}"], name
-        client.send(b"BACKUP /no folder/\xff\n")
-        assert client.read() == ["ERR hub Backup the name isn't UTF-8"]
+            assert hub.owner.ask(f"BACKUP {name}") == [f"ERR hub Backup {why}"], name
+        hub.owner.send(b"BACKUP /no folder/\xff\n")
+        assert hub.owner.read() == ["ERR hub Backup the name isn't UTF-8"]
         assert path.read_bytes() == store.read_bytes()
         assert not nowhere.exists()
         # From here on the hub can't write so much.
         resource.prlimit(hub.process.pid, resource.RLIMIT_FSIZE, (8_192, 8_192))
-        assert client.ask(f"BACKUP {path}3") == ["ERR hub Backup File too large"]
+        assert hub.owner.ask(f"BACKUP {path}3") == ["ERR hub Backup File too large"]
         assert not Path(f"{path}3").exists()
     assert place.status(path) == "OK 2 10 2 -"
 
 
-def put_another_store(place: Place, store: Path) -> None:
-    """The file has another store's content."""
-    shutil.copyfile(place.make_store("other"), store)
-
-
-def replace(place: Place, store: Path) -> None:
-    """Another file takes its place."""
-    os.replace(shutil.copy(store, place.path("again")), store)
-
-
 @pytest.mark.parametrize("change, why", (
     (lambda _, store: flip(store), "the copy is answered ERR 8 Damaged"),
-    (put_another_store, "the copy is answered OK 0 0 0"),
-    (replace, "the store's file was replaced")), ids=("damaged", "another store", "replaced"))
+    (lambda place, store: shutil.copyfile(place.make_store("other"), store),
+     "the copy is answered OK 0 0 0"),
+    (lambda place, store: os.replace(shutil.copy(store, place.path("again")), store),
+     "the store's file was replaced")), ids=("damaged", "another store", "replaced"))
 def test_bad_copies(place: Place, store: Path, change: Callable[[Place, Path], object],
                     why: str) -> None:
     """A copy that isn't what the store shows is refused, and removed."""
@@ -77,24 +69,15 @@ def test_bad_copies(place: Place, store: Path, change: Callable[[Place, Path], o
 FOREIGN = b"somebody else's"
 # Before each part of a copy the hub waits until there is a file.
 COPYING = "                self.go_on()\n"
-WAITING = """\
+SLOWLY = """\
                 while not (self.is_stopped.wait(0.01) or os.path.exists(%r)):
                     pass
-"""
-# And this stands before the program, whose `status` waits until there is another one.
-CHECKING = """
-import os, sys, time
-if sys.argv[1] == "status":
-    open(FOLDER + "/checking", "w").close()
-    while not os.path.exists(FOLDER + "/check on"):
-        time.sleep(0.01)
-os.execv(PROGRAM, [PROGRAM, *sys.argv[1:]])
 """
 
 
 def slow_copies(place: Place, go_on: Path) -> Place:
     """The same with copies that wait for the file of this name."""
-    return place.changed("store.py", COPYING, WAITING % str(go_on) + COPYING)
+    return place.changed("store.py", COPYING, SLOWLY % str(go_on) + COPYING)
 
 
 def begin_copy(client: Client, path: Path) -> None:
@@ -107,13 +90,13 @@ class Slowly:
 
     def __init__(self, place: Place) -> None:
         self.go_on, self.path = place.path("go on"), place.path("copy")
-        self.place = slow_copies(place, self.go_on).wrapped(CHECKING)
-        self.check_on = self.place.path("check on")
+        self.place = slow_copies(place, self.go_on).wrapped(WAITING % "status")
+        self.check_on = self.place.path("go on")
 
     def make(self) -> None:
         """Lets the hub make the copy, up to its check."""
         self.go_on.touch()
-        until("the copy is checked", self.place.path("checking").exists)
+        until("the copy is checked", self.place.path("begun").exists)
 
 
 @pytest.fixture
@@ -149,8 +132,7 @@ def own(place: Place) -> Path:
     store = place.make_store()
     rows = {"C": [concept(one) for one in range(1, 10_001)]}
     place.import_one(store, write_release(place.releases / "large", rows))
-    for number in range(1, COPIES + 1):
-        write_release(place.releases / f"n{number}", {"C": [concept(20_000 + number)]})
+    place.write_nights(COPIES, 20_001)
     return store
 
 
@@ -184,34 +166,31 @@ def test_slow_copy(place: Place, slow: Slowly, own: Path) -> None:
 def test_stopped_copies(slow: Slowly, store: Path, is_made: bool) -> None:
     """A hub that is stopped leaves no copy that isn't whole, or isn't checked."""
     with Hub(slow.place, store) as hub:
-        owner = hub.client()
-        begin_copy(owner, slow.path)
+        begin_copy(hub.owner, slow.path)
         if is_made:
             slow.make()
         assert hub.stop() == 0
-        assert owner.line() == (b"" if is_made else b"ERR hub Backup the hub ends\n")
+        assert hub.owner.line() == (b"" if is_made else b"ERR hub Backup the hub ends\n")
     assert not slow.path.exists()
 
 
 @pytest.mark.parametrize("is_made", (False, True))
 def test_foreign_files(place: Place, slow: Slowly, store: Path, is_made: bool) -> None:
-    """A file that was moved to the path of a copy, while that is made or checked, isn't removed
-    where the copy fails."""
+    """A file moved to the path of a copy, while that is made or checked, stays if it fails."""
     other = place.path("other")
     other.write_bytes(FOREIGN)
     with Hub(slow.place, store) as hub:
-        owner = hub.client()
-        begin_copy(owner, slow.path)
+        begin_copy(hub.owner, slow.path)
         if is_made:
             slow.make()
         other.replace(slow.path)
         if is_made:
             slow.check_on.touch()
-            reply, = owner.read()
+            reply, = hub.owner.read()
             assert reply.startswith("ERR hub Backup the copy is answered ERR 7 NotAStore")
         else:
             assert hub.stop() == 0
-            assert owner.read() == ["ERR hub Backup the hub ends"]
+            assert hub.owner.read() == ["ERR hub Backup the hub ends"]
         assert slow.path.read_bytes() == FOREIGN
         assert f"hub: {slow.path}: not removed: the file was replaced or removed" in hub.told()
 

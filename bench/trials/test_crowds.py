@@ -10,8 +10,9 @@ from pathlib import Path
 
 import pytest
 
-from harness import HANDING_ON, Hub, Place, Wrong, concept, concept_id, until, write_release
+from harness import HANDING_ON, Hub, Place, Wrong, concept, concept_id
 from test_duties import NOT_A_QUESTION
+from test_sessions import served
 
 # How many clients ask, how often, how many lines at once at most, of a store of so many imports.
 CLIENTS, ROUNDS, MOST_LINES, IMPORTS = 64, 12, 40, 6
@@ -36,7 +37,6 @@ class Model:
         self.chance, self.pin = random.Random(SEED + number), IMPORTS
 
     def next(self) -> tuple[str, list[str]]:
-        """A line, and the reply to it."""
         number = self.chance.randint(1, IMPORTS)
         return self.chance.choice((self.asked, self.asked, self.asked, self.receipt, self.pinned,
                                    self.unpinned, self.refused))(number)
@@ -65,10 +65,8 @@ class Model:
 def some_imports(place: Place) -> Path:
     """A store of some imports of a concept each, beside their releases and one more."""
     own = place.make_store()
-    for number in range(1, IMPORTS + 2):
-        release = write_release(place.releases / f"n{number}", {"C": [concept(number)]})
-        if number <= IMPORTS:
-            assert place.import_one(own, release) == f"OK {number} 1 0"
+    replies = [place.import_one(own, one) for one in place.write_nights(IMPORTS + 1)[:-1]]
+    assert replies == [f"OK {number} 1 0" for number in range(1, IMPORTS + 1)]
     return own
 
 
@@ -88,7 +86,6 @@ def ask_all(place: Place, store: Path) -> None:
 
 
 def test_own_replies(place: Place, store: Path) -> None:
-    """Each of 64 clients is told the replies to its own lines, in their order."""
     ask_all(place, store)
 
 
@@ -100,8 +97,7 @@ def test_exchanged_replies(place: Place, store: Path) -> None:
 
 
 def test_watching(place: Place, store: Path) -> None:
-    """Who watches is told of an import before it is answered, on either socket, and has its replies
-    in their order."""
+    """Who watches is told of an import before it is answered, and has its replies in order."""
     with Hub(place, store, releases=place.releases, asks=True) as hub:
         owner, watchers = hub.client(), [hub.asker(), hub.client()]
         for watcher in watchers:
@@ -117,8 +113,7 @@ def test_watching(place: Place, store: Path) -> None:
 
 
 def test_users(place: Place, two_imports: Path) -> None:
-    """A user has so many connections on the socket for questions and no more, which is told
-    once."""
+    """A user has so many connections on the socket for questions and no more, as is told once."""
     with Hub(place, two_imports, "--connections-a-user", "3", asks=True) as hub:
         clients = [hub.asker() for _ in range(3)]
         for client in [*clients, hub.client()]:
@@ -128,18 +123,11 @@ def test_users(place: Place, two_imports: Path) -> None:
         told = f"user {os.getuid()} has 3 connections, and gets no other one"
         assert hub.logged() == [told]
         clients[0].leave()
-
-        def is_served() -> bool:
-            client = hub.asker()
-            client.send(b"RECEIPT 1\n")
-            return client.read() == ["OK 1 6 20200131"]
-
-        until("another one is served", is_served)
+        served(hub.questions).leave()
 
 
 def test_idle(place: Place, two_imports: Path) -> None:
-    """Who says nothing for long is hung up on, but not who watches, nor who may change the
-    store."""
+    """Who is silent for long is hung up on, but not who watches, nor who may change the store."""
     short = place.changed("clients.py", "IDLE_SECONDS, IDLE_SECONDS_IF_FULL = 600, 10",
                           "IDLE_SECONDS, IDLE_SECONDS_IF_FULL = 1, 1")
     with Hub(short, two_imports, asks=True) as hub:
@@ -157,9 +145,8 @@ def test_slow_lines(place: Place, two_imports: Path) -> None:
     if b"RECEIPT 2" in line:
         time.sleep({SLOW_SECONDS})""", ""))
     with Hub(slow, two_imports) as hub:
-        client = hub.client()
-        client.send(b"RECEIPT 1\nRECEIPT 2\nRECEIPT 1\n")
-        assert [client.read()[0].split(" ")[1] for _ in range(3)] == ["1", "2", "1"]
+        hub.owner.send(b"RECEIPT 1\nRECEIPT 2\nRECEIPT 1\n")
+        assert [hub.owner.read()[0].split(" ")[1] for _ in range(3)] == ["1", "2", "1"]
         # (Other lines may take over a second, too, where the machine has much to do.)
         told = re.findall(r"([0-9.]+) s for (.*)", "\n".join(hub.logged()))
         slow_ones = [line for seconds, line in told if float(seconds) >= SLOW_SECONDS]

@@ -67,32 +67,29 @@ class Held:
         self.place.path("go on").touch()
 
     def lines(self) -> list[str]:
-        """The lines that have come to the program."""
         return self.path.read_text("utf-8").splitlines()
 
 
 @pytest.mark.parametrize("layout, rows", ((2, 7), (3, 7), (3, PAGE_ROWS)))
 def test_own_digests(place: Place, layout: int, rows: int) -> None:
-    """A digest is that of the program itself, of each kind of rows, at each pin, however the
-    session came to it."""
+    """A digest is the program's own, of each kind of rows and at each pin, however it was set."""
     whole = rf2.make(place.releases, PACKAGE_ROWS, SEED, is_package=True).full
     store = place.make_store(layout=layout)
     place.import_all(store, [whole, RELEASES / "r1", RELEASES / "r2"])
     own = [[f"OK {place.digest(store, pin)}"] for pin in range(4)]
     assert len(set(map(str, own))) == 4
     with Hub(paged(place, rows), store, asks=True) as hub:
-        client = hub.asker()
         for pin, wanted in enumerate(own):
-            assert client.ask(f"AT {pin} DIGEST") == wanted
-        assert client.ask("DIGEST\r") == own[3]
+            assert hub.guest.ask(f"AT {pin} DIGEST") == wanted
+        assert hub.guest.ask("DIGEST\r") == own[3]
         # The session's pin, which AT and a refusal leave as it is.
         for pin, wanted in enumerate(own):
-            client.send(b"PIN %d\nDIGEST\nAT 2 DIGEST\nPIN 4\nDIGEST\n" % pin)
-            replies = [client.read() for _ in range(5)]
+            hub.guest.send(b"PIN %d\nDIGEST\nAT 2 DIGEST\nPIN 4\nDIGEST\n" % pin)
+            replies = [hub.guest.read() for _ in range(5)]
             assert replies == [[f"OK {pin}"], wanted, own[2], ["ERR 44 PinRange"], wanted]
         assert hub.asker().ask("DIGEST") == own[3]
-        client.send(b"UNPIN\nDIGEST\nPIN\nDIGEST\n")
-        assert [client.read() for _ in range(4)] == [["OK"], own[3], ["OK 3"], own[3]]
+        hub.guest.send(b"UNPIN\nDIGEST\nPIN\nDIGEST\n")
+        assert [hub.guest.read() for _ in range(4)] == [["OK"], own[3], ["OK 3"], own[3]]
 
 
 def test_order(place: Place, store: Path) -> None:
@@ -181,8 +178,7 @@ def connections(client: Client) -> int:
 
 
 def test_leaving(place: Place, store: Path) -> None:
-    """Of a client that leaves nothing more is asked for, whether its digest was begun or not, and
-    its session is another one's."""
+    """For a client that leaves no more pages are asked for, and another one gets its session."""
     held = Held(place, HELD)
     with Hub(held.place, store, asks=True) as hub:
         leaving, staying = [hub.asker() for _ in range(DIGESTS)], hub.asker()
@@ -207,18 +203,16 @@ def test_stopped(place: Place, store: Path) -> None:
     """A hub that is stopped doesn't finish a digest, and ends well: its client is told nothing."""
     held = Held(place, 3)
     with Hub(held.place, store) as hub:
-        client = hub.client()
-        client.send(b"DIGEST\nMETRICS\n")
+        hub.owner.send(b"DIGEST\nMETRICS\n")
         held.wait()
         hub.process.send_signal(signal.SIGTERM)
         until("no other one is served", lambda: not hub.socket.exists())
         held.go_on()
-        assert (client.line(), hub.end()) == (b"", 0)
+        assert (hub.owner.line(), hub.end()) == (b"", 0)
 
 
 def test_refused_pages(place: Place, store: Path) -> None:
-    """What a page is refused with, the digest is: damage, and a fault of the disk, after which the
-    hub ends."""
+    """A digest is refused as a page is: for damage, or a fault of the disk, which ends the hub."""
     with Hub(place, store) as hub:
         assert hub.client().ask("AT 3 DIGEST") == ["ERR 44 PinRange"]
         assert hub.client().ask("DIGEST") == IN_2021
@@ -227,12 +221,10 @@ def test_refused_pages(place: Place, store: Path) -> None:
         os.write(1, b"ERR 2 DiskFault\\n")
         break""", ""))
     with Hub(failing, store) as hub:
-        client = hub.client()
-        assert client.ask("DIGEST") == ["ERR 2 DiskFault"]
-        assert (client.line(), hub.end()) == (b"", 1)
+        assert hub.owner.ask("DIGEST") == ["ERR 2 DiskFault"]
+        assert (hub.owner.line(), hub.end()) == (b"", 1)
     with Hub(place, store) as hub:
         flip(store)
-        client = hub.client()
-        assert client.ask("AT 1 DIGEST") == ["ERR 8 Damaged"]
-        assert client.ask("STATUS") == ["OK 2 10 2 - Damaged"]
+        assert hub.owner.ask("AT 1 DIGEST") == ["ERR 8 Damaged"]
+        assert hub.owner.ask("STATUS") == ["OK 2 10 2 - Damaged"]
         assert hub.stop() == 1

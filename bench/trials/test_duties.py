@@ -1,12 +1,12 @@
 """Tries what the hub does with the built program beside answering: its socket for questions, the
 rights of its sockets, its log, its merges, and the units."""
 
+import contextlib
 import grp
 import os
 import re
 import shutil
 import subprocess
-import threading
 import time
 from collections.abc import Sequence
 from pathlib import Path
@@ -14,7 +14,7 @@ from pathlib import Path
 import pytest
 
 from harness import HANDING_ON, HUB_SECONDS, RECORDER, RELEASES, TOP, TRACE, Client, Hub, Place
-from harness import Wrong, concept, concept_id, has_strace, mode, until, write_release
+from harness import Threads, Wrong, concept, concept_id, has_strace, mode, until, write_release
 from test_copies import begin_copy, slow_copies
 import make_release as rf2
 
@@ -74,20 +74,19 @@ def test_questions_alone(place: Place, store: Path) -> None:
     """On the socket for questions nothing can be changed; the replies come in their order."""
     before = store.read_bytes()
     with Hub(place, store, asks=True) as hub:
-        client = hub.asker()
         asked = [(line, NOT_A_QUESTION) for line in CHANGES + ODD]
         asked += [("STATUS", STATUS), ("STATUS\r", STATUS), ("x" * 5_000, ["ERR 40 Long"])]
         asked += [("RECEIPT 1", ["OK 1 6 20200131"]), ("PIN 1", ["OK 1"]), ("UNPIN", ["OK"])]
         asked += AT_A_PIN
         for line, wanted in AUDIT + asked:
-            assert client.ask(line) == wanted, line[:40]
+            assert hub.guest.ask(line) == wanted, line[:40]
         for line, number in FAULTY.items():
-            assert client.ask(line)[0].split(" ")[:2] == ["ERR", str(number)], line
+            assert hub.guest.ask(line)[0].split(" ")[:2] == ["ERR", str(number)], line
         mixed = [asked[place * 7 % len(asked)] for place in range(200)]
-        client.send(b"".join(line.encode() + b"\n" for line, _ in mixed))
+        hub.guest.send(b"".join(line.encode() + b"\n" for line, _ in mixed))
         for line, wanted in mixed:
-            assert client.read() == wanted, line[:40]
-        assert client.ask("STATUS") == STATUS
+            assert hub.guest.read() == wanted, line[:40]
+        assert hub.guest.ask("STATUS") == STATUS
         assert (hub.stop(), hub.told()) == (0, "")
     assert store.read_bytes() == before
 
@@ -104,20 +103,18 @@ def test_questions_for_all(place: Place, store: Path) -> None:
 def test_words(place: Place, store: Path, options: list[str], wanted: list[str]) -> None:
     """A hub may keep none; all else is answered then."""
     with Hub(place, store, *options, asks=True) as hub:
-        client = hub.asker()
-        told = client.ask("WORDS 20200131 - 0 10 STR")
+        told = hub.guest.ask("WORDS 20200131 - 0 10 STR")
         assert [line.removeprefix("ROW ").partition("\t")[0] for line in told] == wanted
-        assert client.ask("STATUS") == STATUS
-        assert len(client.ask("TERMS 20200131 10 STR")) == 2
+        assert hub.guest.ask("STATUS") == STATUS
+        assert len(hub.guest.ask("TERMS 20200131 10 STR")) == 2
 
 
 def test_what_arrives(place: Place, store: Path) -> None:
     """What comes to the program from the socket for questions is questions, each of its session."""
     recording = place.wrapped(RECORDER)
     with Hub(recording, store, asks=True) as hub:
-        client = hub.asker()
         for line in CHANGES + ODD + list(FAULTY):
-            client.ask(line)
+            hub.guest.ask(line)
     arrived = recording.path("lines").read_bytes().decode().split("\n")
     asked = [line.replace("DIGEST", FIRST_PAGE) if line in MAYBE else line for line in FAULTY]
     assert set(arrived) == {"1 " + line for line in asked} | {"0 STATUS", "1 UNPIN", ""}
@@ -127,8 +124,9 @@ def test_what_arrives(place: Place, store: Path) -> None:
 def test_days_to_come(hub: Hub) -> None:
     """A question about such a day is answered, and logged once a client."""
     client, other = hub.asker(), hub.client()
-    for line in ("GET C 1000004 20200131", "GET C 20991231 20200131", "TERMS 20200131 1 20991231",
-                 "PAGE C 20200131 20991231 1", "AT 1 DATES", "RECEIPT 1", "GET C 1000004 209912311"):
+    for line in ("GET C 1000004 20200131", "GET C 20991231 20200131", "AT 1 DATES", "RECEIPT 1",
+                 "TERMS 20200131 1 20991231", "PAGE C 20200131 20991231 1",
+                 "GET C 1000004 209912311"):
         client.ask(line)
     assert hub.logged() == []
     for line in ("AT 1 DELTA C 20200131 20991231 - 1", "GET C 1000004 20991230"):
@@ -161,7 +159,7 @@ def test_rights(place: Place, store: Path, has_group: bool, wanted: int) -> None
     # Where there is strace, these calls take their time, so that no moment is missed.
     calls = "chmod,fchmodat,chown,fchownat,lchown,listen"
     slowly = [*TRACE, "-o", "/dev/null", "-e", f"inject={calls}:delay_enter=100000"]
-    seen = Watched([place.path("hub"), place.path("questions")])
+    seen = Watched(place.path("hub"), place.path("questions"))
     with seen, Hub(place, store, *words, umask=0, before=slowly if has_strace() else [],
                    asks=True) as hub:
         assert hub.first_line == "OK ready"
@@ -171,28 +169,16 @@ def test_rights(place: Place, store: Path, has_group: bool, wanted: int) -> None
     assert seen.modes[hub.questions] <= {0o600, wanted}
 
 
-class Watched:
-    """Looks at the rights of some paths all the time."""
-
-    def __init__(self, paths: Sequence[Path]) -> None:
+class Watched(Threads):
+    def __init__(self, *paths: Path) -> None:
+        super().__init__(1, self.watch)
         self.modes: dict[Path, set[int]] = {path: set() for path in paths}
-        self.is_over = False
-        self.thread = threading.Thread(target=self.watch)
 
-    def watch(self) -> None:
+    def watch(self, _: int) -> None:
         while not self.is_over:
             for path, modes in self.modes.items():
-                try:
+                with contextlib.suppress(FileNotFoundError):
                     modes.add(mode(path))
-                except FileNotFoundError:
-                    pass
-
-    def __enter__(self) -> None:
-        self.thread.start()
-
-    def __exit__(self, *_: object) -> None:
-        self.is_over = True
-        self.thread.join()
 
 
 @pytest.mark.skipif(os.geteuid() != 0, reason="it takes root to be another user")
@@ -228,14 +214,13 @@ def test_the_log(place: Place) -> None:
     outside can look like another line of it."""
     copy = place.path("copy")
     with Hub(place, place.make_store()) as hub:
-        client = hub.client()
-        assert client.ask("CHECK r1") == ["OK 1 6 0"]
+        assert hub.owner.ask("CHECK r1") == ["OK 1 6 0"]
         for line in ("IMPORT r1", "IMPORT r2", "STATUS", "GET C 1 2", "x", "IMPORT r9", "STEP 1",
                      "MERGE", "STEP 10", "PUBLISH", "TRIM", "IMPORT r\x1b[31m",
                      "IMPORT a\rb\u2028c\\n", f"BACKUP {copy}"):
-            client.ask(line)
-        client.send(b"IMPORT \xff\x00\x7f\n")
-        assert client.read() == ["ERR 43 Arguments"]
+            hub.owner.ask(line)
+        hub.owner.send(b"IMPORT \xff\x00\x7f\n")
+        assert hub.owner.read() == ["ERR 43 Arguments"]
         assert hub.stop() == 0
         told, lines = hub.told(), hub.logged(is_alone=False)
     assert lines == [
@@ -253,28 +238,19 @@ def test_no_reply(place: Place, store: Path) -> None:
     if b"IMPORT" in line:
         break""", ""))
     with Hub(ending, store) as hub:
-        client = hub.client()
-        client.send(b"IMPORT r1\x1b\n")
-        assert client.line() == b""
+        hub.owner.send(b"IMPORT r1\x1b\n")
+        assert hub.owner.line() == b""
         assert hub.end() == 1
         assert hub.logged(is_alone=False) == ["IMPORT r1\\x1b: no reply"]
 
 
-def write_nights(place: Place, count: int) -> list[str]:
-    """Writes releases of a row each, and answers the lines that import them, without their ends."""
-    for number in range(1, count + 1):
-        write_release(place.releases / f"n{number}", {"C": [concept(number)]})
-    return [f"IMPORT n{number}" for number in range(1, count + 1)]
-
-
 def check_of(line: str) -> str:
-    """The line that checks what another one imports."""
     return line.replace("IMPORT", "CHECK")
 
 
 def test_nights(place: Place) -> None:
     """The hub merges in time, so that no import meets too many segments, and answers meanwhile."""
-    lines = write_nights(place, NIGHTS)
+    lines = [f"IMPORT {one.name}" for one in place.write_nights(NIGHTS)]
     with Hub(place, place.make_store(), releases=place.releases) as hub:
         client, other = hub.client(), hub.client()
         for number, line in enumerate(lines, 1):
@@ -294,14 +270,14 @@ def test_nights(place: Place) -> None:
 def test_no_merge_at_start(place: Place) -> None:
     """A hub that is started merges nothing before the first import. If there was no space for a
     merge, each hub would otherwise end as the one before did."""
-    own, lines = place.make_store(), write_nights(place, 4)
+    own = place.make_store()
+    lines = [f"IMPORT {one.name}" for one in place.write_nights(4)]
     import_alone(place, own, lines[:3])
     with Hub(place, own, "--merge-above", "1", releases=place.releases) as hub:
-        client = hub.client()
         time.sleep(0.2)
-        assert client.ask("STATUS") == ["OK 3 3 3 -"]
-        assert client.ask(lines[3]) == ["OK 4 1 0"]
-        until("one segment", lambda: client.ask("STATUS") == ["OK 4 4 1 -"])
+        assert hub.owner.ask("STATUS") == ["OK 3 3 3 -"]
+        assert hub.owner.ask(lines[3]) == ["OK 4 1 0"]
+        until("one segment", lambda: hub.owner.ask("STATUS") == ["OK 4 4 1 -"])
 
 
 def import_alone(place: Place, store: Path, lines: Sequence[str]) -> None:
@@ -315,7 +291,7 @@ def test_full_store(place: Place) -> None:
     """Imports that come faster than segments are merged wait for that where a store is full, also
     those that waited for a copy before; but not where nobody wants merges."""
     own, releases, go_on = place.make_store(), place.releases, place.path("go on")
-    lines = write_nights(place, ALMOST_FULL + 20)
+    lines = [f"IMPORT {one.name}" for one in place.write_nights(ALMOST_FULL + 20)]
     import_alone(place, own, lines[:ALMOST_FULL])
     slow = slow_copies(place.changed("store.py", 'b"STEP 1000"', 'b"STEP 1"'), go_on)
     with Hub(slow, own, "--merge-above", str(ALMOST_FULL), releases=releases) as hub:
@@ -331,15 +307,13 @@ def test_full_store(place: Place) -> None:
         assert owner.read() == ["OK" + f" {ALMOST_FULL}" * 3]
         until("a merge", lambda: owner.ask("STATUS")[0].endswith(f" {ALMOST_FULL} -"))
     with Hub(place, own, "--merge-above", str(MOST_SEGMENTS), releases=releases) as hub:
-        client = hub.client()
         replies_to = zip(lines[-2:], (f"OK {len(lines) - 1} 1 0", "ERR 6 TooManySegments"))
         for line, reply in replies_to:
             for asked in (check_of(line), line):
-                assert client.ask(asked) == [reply]
+                assert hub.owner.ask(asked) == [reply]
     with Hub(place, own, "--merge-above", str(ALMOST_FULL), releases=releases) as hub:
-        client = hub.client()
         for asked in (check_of(lines[-1]), lines[-1]):
-            assert client.ask(asked) == [f"OK {len(lines)} 1 0"]
+            assert hub.owner.ask(asked) == [f"OK {len(lines)} 1 0"]
 
 
 def store_to_merge(place: Place) -> Path:
@@ -353,15 +327,15 @@ def store_to_merge(place: Place) -> Path:
     return own
 
 
-class Asking:
+class Asking(Threads):
     """A client that always has lines on their way, also while one that imports waits until the
     list of imports has the line of its import."""
 
     def __init__(self, hub: Hub) -> None:
-        self.client, self.is_over = hub.client(), False
-        self.thread = threading.Thread(target=self.ask)
+        super().__init__(1, self.ask)
+        self.client = hub.client()
 
-    def ask(self) -> None:
+    def ask(self, _: int) -> None:
         self.client.send(ASKED)
         while not self.is_over:
             self.client.send(ASKED)
@@ -372,13 +346,6 @@ class Asking:
         for _ in range(ASKED.count(b"\n")):
             self.client.read()
 
-    def __enter__(self) -> None:
-        self.thread.start()
-
-    def __exit__(self, *_: object) -> None:
-        self.is_over = True
-        self.thread.join()
-
 
 def test_steps(place: Place) -> None:
     """Merges go in steps of 1,000 rows, and clients are answered between them, imports too. A merge
@@ -386,25 +353,24 @@ def test_steps(place: Place) -> None:
     recording = place.wrapped(RECORDER)
     own = store_to_merge(place)
     with Hub(recording, own, "--merge-above", "2", releases=place.releases) as hub, Asking(hub):
-        client = hub.client()
         for line, count in ((b"IMPORT third\n", 100), (b"IMPORT between\n", 2_000)):
-            client.send(line + b"STATUS\n" * count)
-        assert client.read() == ["OK 3 2000 0"]
+            hub.owner.send(line + b"STATUS\n" * count)
+        assert hub.owner.read() == ["OK 3 2000 0"]
         for _ in range(100):
-            assert client.read()[0].split(" ")[:3] == ["OK", "3", "14000"]
-        assert client.read() == ["OK 4 1 0"]
+            assert hub.owner.read()[0].split(" ")[:3] == ["OK", "3", "14000"]
+        assert hub.owner.read() == ["OK 4 1 0"]
         for _ in range(2_000):
-            assert client.read()[0].split(" ")[:3] == ["OK", "4", "14001"]
-        until("two segments", lambda: client.ask("STATUS") == ["OK 4 14001 2 -"])
+            assert hub.owner.read()[0].split(" ")[:3] == ["OK", "4", "14001"]
+        until("two segments", lambda: hub.owner.ask("STATUS") == ["OK 4 14001 2 -"])
         leaving = hub.client()
         assert leaving.ask("MERGE") == ["OK 14001"]
         assert leaving.ask("STEP 5") == ["OK 13996"]
         # While that client is there, the merge is its own; then it is the hub's.
-        assert client.ask("IMPORT fifth") == ["OK 5 1 0"]
+        assert hub.owner.ask("IMPORT fifth") == ["OK 5 1 0"]
         time.sleep(0.2)
-        assert client.ask("STATUS") == ["OK 5 14002 3 13996"]
+        assert hub.owner.ask("STATUS") == ["OK 5 14002 3 13996"]
         leaving.leave()
-        until("two segments", lambda: client.ask("STATUS") == ["OK 5 14002 2 -"])
+        until("two segments", lambda: hub.owner.ask("STATUS") == ["OK 5 14002 2 -"])
     lines = recording.path("lines").read_bytes().split(b"\n")
     at = [place for place, line in enumerate(lines) if line == b"0 STEP 1000"]
     # Of 8,000 rows, of 6,001, and of 13,996.
@@ -427,8 +393,7 @@ MOST_EXPOSED, GATEWAY_EXPOSED = 6, 10
 @pytest.mark.parametrize("path, lines, most", (
     (UNIT, LINES + HUB_LINES, MOST_EXPOSED), (GATEWAY_UNIT, LINES, GATEWAY_EXPOSED)))
 def test_units(path: Path, lines: Sequence[str], most: int) -> None:
-    """The units are as hardened as they can be. That of the hub gives questions to a group and
-    imports to its owner."""
+    """Units are hardened. That of the hub gives questions to a group and imports to its owner."""
     text = path.read_text("utf-8")
     for line in lines:
         assert text.count(f"\n{line}\n") == 1, line
@@ -445,7 +410,6 @@ def test_units(path: Path, lines: Sequence[str], most: int) -> None:
 
 
 def allowed_calls(lists: Sequence[str]) -> set[str]:
-    """The system calls that the unit allows."""
     def calls(name: str) -> set[str]:
         if not name.startswith("@"):
             return {name}
@@ -472,9 +436,8 @@ def test_system_calls(place: Place) -> None:
     tracing = [*TRACE, "-o", str(trace), "-e", "signal=none"]
     with Hub(place, place.make_store(), "--group", group, "--merge-above", "1", before=tracing,
              asks=True) as hub:
-        client = hub.client()
         for line in ("IMPORT r1", "IMPORT r2", f"BACKUP {place.path('copy')}", "TRIM"):
-            assert client.ask(line)[0].startswith("OK")
+            assert hub.owner.ask(line)[0].startswith("OK")
     until("the trace has its end", lambda: b"exit_group" in trace.read_bytes()[-200:])
     lines = trace.read_text("utf-8", "backslashreplace")
     called = set(re.findall(r"^[0-9]+ +([a-z_0-9]+)\(", lines, re.M))

@@ -4,14 +4,12 @@ one is the same everywhere, and finds what differs."""
 import random
 import re
 import shutil
-import subprocess
-import sys
 from collections.abc import Callable
 from pathlib import Path
 
 import pytest
 
-from harness import AROUND, SECONDS, Place
+from harness import SECONDS, Place, Ran
 import make_release as rf2
 
 CHECK = "examples/check_edition.py"
@@ -57,7 +55,7 @@ def write_snapshot(package: Path) -> None:
 @pytest.fixture(scope="module")
 def sound(tried: Place) -> Path:
     """A sound package of all sorts of files."""
-    package = tried.path("package")
+    package = tried.path("sound package")
     rf2.write_package(str(package / "Full"), rf2.Package(SEED), ROWS)
     write_snapshot(package)
     return package
@@ -69,11 +67,14 @@ def package(place: Place, sound: Path) -> Path:
     return Path(shutil.copytree(sound, place.path("edition")))
 
 
-def checked(place: Place, package: Path, *words: str) -> subprocess.CompletedProcess[str]:
-    command: list[str | Path] = [sys.executable, place.script(CHECK), "--program", place.program,
-                                 *words, place.path("new.store"), package]
-    return subprocess.run(command, capture_output=True, timeout=SECONDS, env=AROUND, text=True,
-                          check=False)
+def checked(place: Place, package: Path, *words: str) -> Ran:
+    return place.run_script(CHECK, "--program", place.program, *words, place.path("new.store"),
+                            package, seconds=SECONDS)
+
+
+def one_differs(ran: Ran) -> None:
+    assert ran.status == 1, ran.faults
+    assert column(ran.output, "compared")[-2:] == ["1", "differ"]
 
 
 def column(page: str, title: str) -> list[str]:
@@ -84,8 +85,8 @@ def column(page: str, title: str) -> list[str]:
 
 def test_sound_package(place: Place, package: Path) -> None:
     """All is the same, the page has the counts, and nothing of the release but days."""
-    done = checked(place, package)
-    assert done.returncode == 0, done.stdout + done.stderr
+    status, page, faults = checked(place, package)
+    assert status == 0, page + faults
     rows = {kind: 0 for kind in "CDRAVM"}
     days, words = set[str](), set[str]()
     for sort, path in rf2.files_of(package / "Full"):
@@ -98,25 +99,23 @@ def test_sound_package(place: Place, package: Path) -> None:
         names = {line.split("\t")[0] for line in lines}
         rows[rf2.SORTS[sort].kind] += len(names)
     wanted = [str(rows[kind]) for kind in "CDRAVM"]
-    assert column(done.stdout, "rows as of") == list("CDRAVM")
-    assert column(done.stdout, "Snapshot") == column(done.stdout, max(days)) == wanted
-    assert set(re.findall(r"^([0-9]{8}) ", done.stdout, re.M)) == days
-    assert column(done.stdout, "compared")[-2:] == ["0", "differ"]
-    digests = [column(done.stdout, f"digest by {who}")[0].rstrip(",")
+    assert column(page, "rows as of") == list("CDRAVM")
+    assert column(page, "Snapshot") == column(page, max(days)) == wanted
+    assert set(re.findall(r"^([0-9]{8}) ", page, re.M)) == days
+    assert column(page, "compared")[-2:] == ["0", "differ"]
+    digests = [column(page, f"digest by {who}")[0].rstrip(",")
                for who in ("the program", "digest.py")]
     assert digests[0] == digests[1] == place.digest(place.path("new.store"))
-    assert [word for word in words if word in done.stdout] == []
+    assert [word for word in words if word in page] == []
 
 
 def without_a_row(package: Path) -> None:
-    """A row is missing."""
     path = next((package / "Snapshot").rglob("sct2_Description_*"))
     lines = path.read_bytes().splitlines(keepends=True)
     path.write_bytes(b"".join(lines[:-1]))
 
 
 def with_another_row(package: Path) -> None:
-    """A row is active that isn't."""
     path = next((package / "Snapshot").rglob("der2_cRefset_Language*"))
     path.write_bytes(path.read_bytes().replace(b"\t0\t", b"\t1\t", 1))
 
@@ -134,7 +133,6 @@ def with_an_older_row(package: Path) -> None:
 
 
 def without_a_file(package: Path) -> None:
-    """A sort of files is missing."""
     next((package / "Snapshot").rglob("*OWLExpression*")).unlink()
 
 
@@ -143,19 +141,16 @@ def without_a_file(package: Path) -> None:
 def test_wrong_snapshots(place: Place, package: Path, change: Callable[[Path], None]) -> None:
     """One kind differs of the Snapshot, and none as of the days of the Full."""
     change(package)
-    done = checked(place, package, "--without-digest")
-    assert done.returncode == 1, done.stderr
-    assert column(done.stdout, "compared")[-2:] == ["1", "differ"]
-    said = " ".join(column(done.stdout, "Snapshot"))
+    ran = checked(place, package, "--without-digest")
+    one_differs(ran)
+    said = " ".join(column(ran.output, "Snapshot"))
     assert "differ" in said or ", not " in said
 
 
 @pytest.mark.parametrize("script", (CHANGED_ROW, CHANGED_DIGEST))
 def test_wrong_programs(place: Place, package: Path, script: str) -> None:
     """A program that answers one row wrongly, or another digest, is found out."""
-    done = checked(place.wrapped(script), package)
-    assert done.returncode == 1, done.stderr
-    assert column(done.stdout, "compared")[-2:] == ["1", "differ"]
+    one_differs(checked(place.wrapped(script), package))
 
 
 def test_parts(place: Place, package: Path) -> None:
@@ -170,16 +165,14 @@ def test_parts(place: Place, package: Path) -> None:
                                    f"ROWS_AT_A_TIME, PAGE_ROWS, READ_BYTES = {rows}, 7"))
     assert script.read_text("utf-8") != text
     place.tree = small
-    done = checked(place, package, "--without-digest")
-    assert done.returncode == 0, done.stdout + done.stderr
+    ran = checked(place, package, "--without-digest")
+    assert ran.status == 0, ran.output + ran.faults
 
 
 def test_no_package(place: Place, package: Path) -> None:
     """What isn't a package, and a store that is there already, are told."""
-    done = checked(place, package / "Full")
-    assert (done.returncode, done.stdout) == (1, "")
-    assert done.stderr.endswith("has no folder Full\n")
+    ran = checked(place, package / "Full")
+    assert ran[:2] == (1, "") and ran.faults.endswith("has no folder Full\n")
     place.path("new.store").write_bytes(b"somebody else's")
-    done = checked(place, package)
-    assert (done.returncode, done.stdout) == (1, "")
-    assert done.stderr.endswith("check_edition: init: ERR 4 NotEmpty\n")
+    ran = checked(place, package)
+    assert ran[:2] == (1, "") and ran.faults.endswith("check_edition: init: ERR 4 NotEmpty\n")

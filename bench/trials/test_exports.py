@@ -17,7 +17,7 @@ import pytest
 import harness
 import make_release as rf2
 from harness import HUB_SECONDS, RELEASES, Hub, Place, concept, write_release
-from test_readers import CHAINS, Script, ends_with
+from test_readers import CHAINS, Script
 
 EXPORT, FOLLOW = "examples/export.py", "examples/follow.py"
 SEED, PACKAGE_ROWS = 3, 3_000
@@ -35,8 +35,7 @@ class Made(NamedTuple):
 
 @pytest.fixture(scope="module", params=(2, 3))
 def made(tried: Place, request: pytest.FixtureRequest) -> Iterator[Made]:
-    """Stores of layout 2 and 3 whose imports have several versions of components, rows that others
-    had, and terms with a CR."""
+    """Stores of layout 2 and 3: several versions of components, repeated rows, CRs in terms."""
     layout: int = request.param
     place = tried.below(f"exports of layout {layout}")
     rf2.make(place.releases, PACKAGE_ROWS, SEED, is_package=True)
@@ -51,12 +50,12 @@ def made(tried: Place, request: pytest.FixtureRequest) -> Iterator[Made]:
 
 def printed(place: Place, hub: Hub, *words: str) -> bytes:
     """What export.py prints, and that it says what it printed."""
-    done = place.run_script(EXPORT, hub.questions, *words)
-    told = done.stderr.decode()
-    rows, digest = done.stdout.count(b"\n"), hashlib.sha256(done.stdout).hexdigest()
-    assert done.returncode == 0, told
-    assert told.startswith("export: pin ") and told.endswith(f", {rows} rows, SHA-256 {digest}\n")
-    return done.stdout
+    status, output, told = place.run_script(EXPORT, hub.questions, *words)
+    rows = output.encode()
+    assert status == 0, told
+    assert told.startswith("export: pin ") and told.endswith(
+        f", {rows.count(10)} rows, SHA-256 {hashlib.sha256(rows).hexdigest()}\n")
+    return rows
 
 
 # ---- export.py
@@ -64,8 +63,7 @@ def printed(place: Place, hub: Hub, *words: str) -> bytes:
 
 @pytest.mark.parametrize("pin", (1, 2, 3, 4))
 def test_exports(made: Made, pin: int) -> None:
-    """The rows are those of the releases, and their SHA-256 is the store's digest, whatever the
-    size of pages."""
+    """The releases' rows, with the store's digest as their SHA-256, in pages of whatever size."""
     found = printed(made.place, made.hub, "--pin", str(pin), "--check")
     digest, all_files = hashlib.sha256(found).hexdigest(), ["--all"] if b"\nM " in found else []
     assert made.hub.asker().ask(f"AT {pin} DIGEST") == [f"OK {digest}"]
@@ -104,7 +102,8 @@ def test_imports_beside_an_export(place: Place) -> None:
     (["--limit", "0"], "ROWS C - - 0 was answered ERR 43 Arguments"),
     (["--limit", "1001"], "ROWS C - - 1001 was answered ERR 43 Arguments")))
 def test_refused_exports(made: Made, words: list[str], why: str) -> None:
-    ends_with(made.place.run_script(EXPORT, made.hub.questions, *words), f"export: {why}")
+    ran = made.place.run_script(EXPORT, made.hub.questions, *words)
+    assert ran == (1, "", f"export: {why}\n")
 
 
 def test_exports_that_nobody_reads(made: Made) -> None:
@@ -133,7 +132,8 @@ def test_exports_that_arent_whole(place: Place, count: int, why: str) -> None:
         listener.listen()
         hub = threading.Thread(target=answer, args=(listener, replies[:count]))
         hub.start()
-        ends_with(place.run_script(EXPORT, place.path("false"), "--check"), f"export: {why}")
+        ran = place.run_script(EXPORT, place.path("false"), "--check")
+        assert ran == (1, "", f"export: {why}\n")
         hub.join(HUB_SECONDS)
 
 
@@ -142,9 +142,9 @@ def test_exports_that_arent_whole(place: Place, count: int, why: str) -> None:
 
 def followed(place: Place, hub: Hub, name: str, *words: str) -> list[str]:
     """The receipts that a run prints."""
-    done = place.run_script(FOLLOW, hub.questions, place.path(name), *words)
-    assert (done.returncode, done.stderr) == (0, b"")
-    return done.stdout.decode().splitlines()
+    ran = place.run_script(FOLLOW, hub.questions, place.path(name), *words)
+    assert (ran.status, ran.faults) == (0, "")
+    return ran.output.splitlines()
 
 
 def rows_of(path: Path) -> list[tuple[str, str, int]]:
@@ -162,11 +162,10 @@ def is_whole(path: Path, place: Place, hub: Hub) -> None:
     with contextlib.closing(sqlite3.connect(path)) as file:
         told = file.execute("select number, receipt from imports order by number").fetchall()
     counts = Counter(number for _, _, number in found)
-    client = hub.asker()
-    imports = int(client.ask("STATUS")[0].split()[1])
+    imports = int(hub.guest.ask("STATUS")[0].split()[1])
     assert [number for number, _ in told] == [*range(1, imports + 1)]
     for number, receipt in told:
-        assert [receipt] == client.ask(f"RECEIPT {number}")
+        assert [receipt] == hub.guest.ask(f"RECEIPT {number}")
         assert counts[number] == int(receipt.split()[2])
 
 
@@ -183,30 +182,28 @@ def test_followers_that_are_begun_again(place: Place) -> None:
     """After each import, in the middle of one, and while imports are made."""
     store, many = place.make_store(), [concept(number) for number in range(MANY_ROWS)]
     write_release(place.releases / "many", {"C": many})
-    for name in ("r1", "r2", "r3"):
-        place.link_release(name)
+    place.link_releases()
     path, journal = place.path("file"), place.path("file-journal")
     with Hub(place, store, releases=place.releases, asks=True) as hub:
-        client = hub.client()
         for name, new in (("r1", 6), ("r2", 4)):
-            assert client.ask(f"IMPORT {name}")[0].split()[2] == str(new)
+            assert hub.owner.ask(f"IMPORT {name}")[0].split()[2] == str(new)
             assert len(followed(place, hub, "file")) == 1
             is_whole(path, place, hub)
-        assert client.ask("IMPORT many")[0] == f"OK 3 {MANY_ROWS} 0"
+        assert hub.owner.ask("IMPORT many")[0] == f"OK 3 {MANY_ROWS} 0"
         for _ in range(3):
             killed = Script(place, FOLLOW, hub.questions, path, "--limit", "1")
             harness.until("a follower writes", journal.exists)
             killed.process.kill()
             assert killed.ended()[0] == -signal.SIGKILL
             assert {number for _, _, number in rows_of(path)} == {1, 2}
-        assert client.ask("IMPORT r3")[0].startswith("OK 4 2 ")
+        assert hub.owner.ask("IMPORT r3")[0].startswith("OK 4 2 ")
         assert len(followed(place, hub, "file")) == 2
         is_whole(path, place, hub)
 
 
 def test_followers_that_stay(place: Place, store: Path) -> None:
     """One is told of imports, and another one that is stopped has what was taken by then."""
-    place.link_release("r3")
+    place.link_releases("r3")
     with Hub(place, store, releases=place.releases, asks=True) as hub:
         staying = Script(place, FOLLOW, hub.questions, place.path("file"), "--stay")
         told = [staying.output.readline().split()[:3] for _ in range(2)]
@@ -232,9 +229,9 @@ def test_followers_of_another_store(place: Place, store: Path, names: list[str])
         assert len(followed(place, hub, "file")) == 2
     before = rows_of(place.path("file"))
     with Hub(place, other, asks=True) as hub:
-        done = place.run_script(FOLLOW, hub.questions, place.path("file"))
-    assert (done.returncode, done.stdout) == (1, b"")
-    assert done.stderr.startswith(b"follow: the file followed another store: its import 2 is OK 2 ")
+        ran = place.run_script(FOLLOW, hub.questions, place.path("file"))
+    assert ran[:2] == (1, "")
+    assert ran.faults.startswith("follow: the file followed another store: its import 2 is OK 2 ")
     assert rows_of(place.path("file")) == before
 
 
@@ -245,11 +242,12 @@ def test_followers_of_another_store(place: Place, store: Path, names: list[str])
 def test_refused_followers(place: Place, store: Path, words: list[str], why: str) -> None:
     with Hub(place, store, asks=True) as hub:
         path = hub.questions if words else place.path("none")
-        ends_with(place.run_script(FOLLOW, path, place.path("file"), *words),
-                  f"follow: {why.format(path)}")
+        assert place.run_script(FOLLOW, path, place.path("file"), *words) == (
+            1, "", f"follow: {why.format(path)}\n")
     assert rows_of(place.path("file")) == []
 
 
 def test_followers_whose_file_is_none(hub: Hub, place: Place, store: Path) -> None:
     """Of SQLite."""
-    ends_with(place.run_script(FOLLOW, hub.questions, store), "follow: file is not a database")
+    ran = place.run_script(FOLLOW, hub.questions, store)
+    assert ran == (1, "", "follow: file is not a database\n")

@@ -85,7 +85,6 @@ class Medium:
         self.mount()
 
     def block_of(self, block: int) -> int:
-        """Where a block of the store lies on the device."""
         for line in run("filefrag", "-v", self.store).stdout.split("\n"):
             parts = line.replace(":", " ").replace("..", " ").split()
             if len(parts) > 5 and parts[0].isdigit() and int(parts[1]) <= block <= int(parts[2]):
@@ -114,7 +113,6 @@ def older_gate(store: Path) -> int:
 
 
 def status(place: Place, store: Path) -> str:
-    """What a server says of a store."""
     return place.run("serve", "--store", store, "--releases", RELEASES,
                      given="0 STATUS\n").output.strip()
 

@@ -40,8 +40,7 @@ FOREIGN = b"somebody else's"
 REPLACED = "the file was replaced or removed while it was open"
 NOT_REMOVED = "sctd: copy: not removed: " + REPLACED
 PERMITTED = "sctd: copy: not removed: Operation not permitted (os error 1)"
-LANGUAGE = "Refset/Language/der2_cRefset_LanguageDelta-en_INT_20250131.txt"
-ASSOCIATIONS = "Refset/Content/der2_cRefset_AssociationReferenceDelta_INT_20250131.txt"
+ASSOCIATIONS = "Refset/Content/der2_cRefset_AssociationDelta_INT_20250131.txt"
 CONCEPTS = "Terminology/sct2_Concept_Delta_INT_20250131.txt"
 
 
@@ -77,7 +76,6 @@ def limit(which: int, most: int) -> Callable[[], None]:
 
 
 def store_of_r1(place: Place) -> tuple[Path, bytes]:
-    """A store with a release of the guide, and its bytes."""
     store = place.make_store()
     place.import_one(store, RELEASES / "r1")
     return store, store.read_bytes()
@@ -86,27 +84,21 @@ def store_of_r1(place: Place) -> tuple[Path, bytes]:
 # ---- The standard descriptors
 
 
-def run_closed(place: Place, words: Sequence[str], closed: Sequence[int]) -> int:
-    """Runs the program without some of its standard descriptors. Its status."""
-    done = subprocess.run([place.program, *words], cwd=place.folder, timeout=place.seconds,
-                          check=False, stdin=subprocess.DEVNULL, stdout=subprocess.DEVNULL,
-                          stderr=subprocess.DEVNULL, preexec_fn=partial(close_all, closed))
-    return done.returncode
-
-
 @pytest.mark.parametrize("command", COMMANDS, ids=" ".join)
 def test_closed_descriptors(place: Place, command: Sequence[str]) -> None:
     """A command that is started without a standard stream leaves its files as it does with all of
     them: no reply is written into a store."""
     store, content = store_of_r1(place)
-    left = []
+    left, words = [], [word.format("store") for word in command]
     for closed in ((), *CLOSED):
         store.write_bytes(content)
         place.path("store-copy").unlink(missing_ok=True)
-        status = run_closed(place, [word.format("store") for word in command], closed)
+        done = subprocess.run([place.program, *words], cwd=place.folder, timeout=place.seconds,
+                              check=False, stdin=subprocess.DEVNULL, stdout=subprocess.DEVNULL,
+                              stderr=subprocess.DEVNULL, preexec_fn=partial(close_all, closed))
         left.append(place.contents())
         assert left[-1] == left[0], closed
-        assert status in (0, 1, 2), closed
+        assert done.returncode in (0, 1, 2), closed
 
 
 # ---- Calls that are interrupted, and a limit of the system
@@ -127,8 +119,7 @@ def test_interrupted_calls(place: Place, library: Library, call: str) -> None:
 
 
 def test_limited_length(place: Place) -> None:
-    """Where the system lets no file become so long, an import and a copy are refused, and leave the
-    store as it was."""
+    """Where no file may become so long, an import and a copy are refused, and the store stays."""
     store, content = store_of_r1(place)
     short = limit(resource.RLIMIT_FSIZE, len(content) - 1)
     words = ("import", "--quiet", "--store", store, RELEASES / "r2")
@@ -212,22 +203,15 @@ def test_failed_copies(place: Place, library: Library, fault: Moment) -> None:
 
 def write_whole(place: Place) -> None:
     """A release with a file in each of the folders."""
-    release = write_release(place.path("release"), {"C": [concept(1), concept(2)]})
-    heads = "id\teffectiveTime\tactive\tmoduleId\trefsetId\treferencedComponentId\t"
-    member = "\t".join(["%s", DAY, "1", "900000000000207008", "900000000000509007",
-                        str(concept_id(1)), "900000000000548007"]) + "\n"
-    for name, last, number in ((LANGUAGE, "acceptabilityId", "01"),
-                               (ASSOCIATIONS, "targetComponentId", "02")):
-        path = release / name
-        path.parent.mkdir(parents=True, exist_ok=True)
-        path.write_text(heads + last + "\n" + member % (
-            "0b6a0c2e-5d0f-4c53-9f6e-8d9d2a7b1c" + number), encoding="utf-8")
+    member = "\t".join(["0b6a0c2e-5d0f-4c53-9f6e-8d9d2a7b1c%s", DAY, "1", "900000000000207008",
+                        "900000000000509007", str(concept_id(1)), "900000000000548007"])
+    write_release(place.path("release"), {"C": [concept(1), concept(2)],
+                                          "Language": [member % "01"], "A": [member % "02"]})
 
 
 def meddled(place: Place, library: Library, moment: Moment, layout: int, why: str,
             before: Callable[[], object] | None = None) -> None:
-    """An import of such a release, in which something happens, is refused. The store is left as it
-    was."""
+    """An import in which something happens is refused, and the store is left as it was."""
     write_whole(place)
     store = place.make_store(layout=layout)
     content = store.read_bytes()

@@ -2,34 +2,34 @@
 for it but the import, and what is told of it after kills, take-backs, writes of other programs and
 on a full disk."""
 
-from __future__ import annotations
-
+import contextlib
 import os
 import random
 import re
 import resource
 import shutil
 import subprocess
-import sys
 import time
-from collections.abc import Callable
+from collections.abc import Callable, Sequence
 from pathlib import Path
 
 import pytest
 
-from harness import HUB, HUB_SECONDS, RELEASES, TRACE, Client, Hub, Place, concept, has_strace
-from harness import mode, until, write_release
+from harness import BLOCK, HUB, HUB_SECONDS, RELEASES, SMALL_RELEASES, TRACE, Client, Hub, Place
+from harness import Ran, concept, has_strace, mode, until, write_release
 
 FIRST_LINE = "sctd imports 1\n"
 TIME = "[0-9]{4}-[0-9]{2}-[0-9]{2}T[0-9]{2}:[0-9]{2}:[0-9]{2}Z"
 NO_DIGEST, NOTHING = "-", "\t-" * 6
+CLIENT, TAKE = "examples/client.py", "examples/take_copy.py"
 # What the guide tells others to compute of a release.
 DIGEST = ("cd \"$1\" && find -L Terminology Refset -maxdepth 2 -type f -print0 2> /dev/null | "
           "LC_ALL=C sort -z | xargs -0 sha256sum -z | sha256sum")
 # How often a hub is killed, and after how many seconds at most since its first import.
 KILLS, KILL_SECONDS = 50, 0.15
 SEED = 11
-# Lets what stands behind it wait until there is a file.
+# Lines of the hub's code, and what lets one wait until there is a file.
+DIGESTING, SYNCING = "                digest.update(part)\n", "            os.fsync(number)\n"
 WAITING = """\
 {indent}while not os.path.exists({path!r}):
 {indent}    __import__("time").sleep(0.01)
@@ -73,26 +73,32 @@ def told(hub: Hub) -> list[str]:
     return [str(text) for text in found]
 
 
-def nights(place: Place, count: int) -> list[Path]:
-    """Releases of a row each."""
-    return [write_release(place.releases / f"n{number}", {"C": [concept(number)]})
-            for number in range(1, count + 1)]
+def night_lines(made: Sequence[Path]) -> list[str]:
+    """The lines of releases of a row each, which were imported in this order."""
+    return [line_of(number, release, 1) for number, release in enumerate(made, 1)]
 
 
-def night_line(number: int, release: Path) -> str:
-    return line_of(number, release, 1)
+def imported(place: Place, store: Path, made: Sequence[Path]) -> list[str]:
+    """Imports releases of one folder by a hub, and answers the rows of its list."""
+    with Hub(place, store, releases=made[0].parent) as hub:
+        for release in made:
+            hub.owner.ask(f"IMPORT {release.name}")
+        return rows(hub.owner)
 
 
-def without_hub(place: Place, store: Path) -> subprocess.CompletedProcess[bytes]:
+def begins(place: Place, store: Path, tells: Sequence[str], lines: Sequence[str]) -> None:
+    """A hub that is started tells this of the list, and answers these rows of it."""
+    with Hub(place, store) as hub:
+        assert (told(hub), rows(hub.client())) == (tells, lines)
+
+
+def without_hub(place: Place, store: Path) -> Ran:
     """What the list of a store is without a hub."""
-    return subprocess.run(
-        [sys.executable, place.script(HUB), "imports", "--program", place.program, "--store",
-         store], capture_output=True, timeout=HUB_SECONDS, check=False)
+    return place.run_script(HUB, "imports", "--program", place.program, "--store", store)
 
 
 def test_the_list(place: Place) -> None:
-    """Each confirmed import has a line, and nothing else has one; others compute the same digest.
-    """
+    """Confirmed imports have a line, and nothing else; others compute the same digest."""
     store = place.make_store(layout=3)
     odd = write_release(place.releases / "odd" / "Full", {"C": [concept(1)]})
     for name in ("Refset/b", "Refset/b-c", "Refset/b/deeper", "Terminology/d"):
@@ -100,8 +106,7 @@ def test_the_list(place: Place) -> None:
     for name in ("Refset/b/1 2\n\\.txt", "Refset/b-c/1.txt", "Refset/b/deeper/x", "Refset/y",
                  "Terminology/d/z", "outside"):
         (odd / name).write_text(name, encoding="utf-8")
-    for name in ("r1", "r2", "r3"):
-        place.link_release(name)
+    place.link_releases()
     lines = [line_of(1, RELEASES / "r1", 6), line_of(2, RELEASES / "r2", 4),
              line_of(3, RELEASES / "r1", 0, 6),
              line_of(4, odd, 1).replace("\tFull\t", "\todd/Full\t")]
@@ -122,30 +127,26 @@ def test_the_list(place: Place) -> None:
     assert listed(store) == lines
     assert list_of(store).read_text("utf-8") == FIRST_LINE + whole
     assert mode(list_of(store)) == 0o600
-    done = without_hub(place, store)
-    assert (done.returncode, done.stdout.decode(), done.stderr) == (0, reply, b"")
+    assert without_hub(place, store) == (0, reply, "")
     with Hub(place, store) as hub:
         assert told(hub) == []
         assert rows(hub.client()) == lines
-        busy = without_hub(place, store)
-        assert (busy.returncode, busy.stdout) == (1, b"")
+        assert without_hub(place, store)[:2] == (1, "")
 
 
-def waiting(place: Place, file: str, before: str, go_on: Path) -> Place:
-    """The same with a hub that waits for a file before a line of its code."""
+def waiting(place: Place, before: str) -> Place:
+    """The same with a hub that waits for the file `go on` before a line of its code."""
     indent = before[: len(before) - len(before.lstrip())]
-    return place.changed(file, before, WAITING.format(indent=indent, path=str(go_on)) +
-                         before.lstrip())
+    wait = WAITING.format(indent=indent, path=str(place.path("go on")))
+    return place.changed("imports.py", before, wait + before.lstrip())
 
 
-@pytest.mark.parametrize("before", (
-    "                digest.update(part)\n", "            os.fsync(number)\n"))
+@pytest.mark.parametrize("before", (DIGESTING, SYNCING))
 def test_nobody_else_waits(place: Place, before: str) -> None:
     """An import isn't answered before its line is on the disk, nor before the digest is computed
     that is in it, and others are answered meanwhile."""
-    go_on, store = place.path("go on"), place.make_store()
-    slow = waiting(place, "imports.py", before, go_on)
-    with Hub(slow, store, asks=True) as hub:
+    store = place.make_store()
+    with Hub(waiting(place, before), store, asks=True) as hub:
         client, other, watching = hub.client(), hub.asker(), hub.asker()
         assert watching.ask("WATCH") == ["OK 0"]
         client.send(b"IMPORT r1\n")
@@ -154,7 +155,7 @@ def test_nobody_else_waits(place: Place, before: str) -> None:
             assert other.ask("GET C 138875005 20210131")[-1] == "END 1"
             assert other.ask("IMPORTS") == ["END 0"]
         assert not (client.has_reply(0.2) or watching.has_reply())
-        go_on.touch()
+        place.path("go on").touch()
         assert client.read() == ["OK 1 6 0"]
         assert watching.read() == ["OK 1"]
         assert rows(other) == listed(store) == [line_of(1, RELEASES / "r1", 6)]
@@ -182,15 +183,14 @@ def test_syncs(place: Place) -> None:
 
 def test_copies_wait(place: Place) -> None:
     """A copy that is wanted while an import waits for its line has both."""
-    go_on, store, copy = place.path("go on"), place.make_store(), place.path("copy")
-    slow = waiting(place, "imports.py", "                digest.update(part)\n", go_on)
-    with Hub(slow, store) as hub:
+    store, copy = place.make_store(), place.path("copy")
+    with Hub(waiting(place, DIGESTING), store) as hub:
         client, owner = hub.client(), hub.client()
         client.send(b"IMPORT r1\n")
         until("the import", lambda: hub.client().ask("STATUS") == ["OK 1 6 1 -"])
         owner.send(f"BACKUP {copy}\n".encode())
         assert not owner.has_reply(0.5)
-        go_on.touch()
+        place.path("go on").touch()
         assert (client.read(), owner.read()) == (["OK 1 6 0"], ["OK 1 6 1"])
     assert listed(copy) == listed(store) == [line_of(1, RELEASES / "r1", 6)]
 
@@ -198,14 +198,12 @@ def test_copies_wait(place: Place) -> None:
 def test_end_while_a_digest_is_computed(place: Place) -> None:
     """It isn't waited for; the import has its line."""
     store = place.make_store()
-    slow = place.changed("imports.py", "                digest.update(part)\n",
-                         "                self.is_stopped.wait()\n")
-    with Hub(slow, store) as hub:
-        client = hub.client()
-        client.send(b"IMPORT r1\n")
+    stuck = "                self.is_stopped.wait()\n"
+    with Hub(place.changed("imports.py", DIGESTING, stuck), store) as hub:
+        hub.owner.send(b"IMPORT r1\n")
         until("the import", lambda: hub.client().ask("STATUS") == ["OK 1 6 1 -"])
         assert hub.stop() == 0
-        assert client.read() == ["OK 1 6 0"]
+        assert hub.owner.read() == ["OK 1 6 0"]
         assert "r1: no digest of its files: the hub ends\n" in hub.told()
     assert listed(store) == [line_of(1, RELEASES / "r1", 6, digest=NO_DIGEST)]
 
@@ -213,7 +211,7 @@ def test_end_while_a_digest_is_computed(place: Place) -> None:
 def test_kills(place: Place) -> None:
     """Whenever the hub is killed while it imports, each import that was answered has its line, and
     of the others at most the last one lacks it, which the next start tells."""
-    store, releases = place.make_store(), nights(place, 40)
+    store, releases = place.make_store(), place.write_nights(40)
     drawn, lacking = random.Random(SEED), set[int]()
     for _ in range(KILLS):
         with Hub(place, store, releases=place.releases) as hub:
@@ -232,7 +230,6 @@ def test_kills(place: Place) -> None:
 
 
 def listed_whole(store: Path) -> list[str]:
-    """The whole lines of a list that may be cut off."""
     if not list_of(store).exists():
         return []
     return list_of(store).read_text("utf-8").split("\n")[1:-1]
@@ -240,14 +237,13 @@ def listed_whole(store: Path) -> list[str]:
 
 def import_until_killed(hub: Hub, releases: list[Path], seconds: float) -> set[int]:
     """Imports until the hub is killed, and answers which imports were answered."""
-    client = hub.client()
-    client.send("".join(f"IMPORT {one.name}\n" for one in releases).encode())
+    hub.owner.send("".join(f"IMPORT {one.name}\n" for one in releases).encode())
     time.sleep(seconds)
     for number in hub.programs():
         os.kill(number, 9)
     hub.process.kill()
     hub.process.wait()
-    return {int(line.split()[1]) for line in iter(client.line, b"") if line.startswith(b"OK ")}
+    return {int(line.split()[1]) for line in iter(hub.owner.line, b"") if line.startswith(b"OK ")}
 
 
 def take_back(place: Place, store: Path, imports: int) -> None:
@@ -258,49 +254,39 @@ def take_back(place: Place, store: Path, imports: int) -> None:
 
 def test_two_take_backs(place: Place) -> None:
     """What the list has of imports that were taken back doesn't count for those that came later."""
-    store, made = place.make_store(), nights(place, 9)
-    with Hub(place, store, releases=place.releases) as hub:
-        for release in made[:5]:
-            hub.client().ask(f"IMPORT {release.name}")
+    store, made = place.make_store(), place.write_nights(9)
+    imported(place, store, made[:5])
     take_back(place, store, 3)
     beyond = without_hub(place, store)
-    assert beyond.stdout.decode().count("ROW ") == 5
-    assert b"it has lines of 2 imports that the store doesn't have" in beyond.stderr
-    taken = ["it has lines for imports %d to %d, which the store doesn't have: they don't count"]
-    first = [night_line(number, release) for number, release in enumerate(made[:3], 1)]
+    assert beyond.output.count("ROW ") == 5
+    assert "it has lines of 2 imports that the store doesn't have" in beyond.faults
+    taken = "it has lines for imports %d to %d, which the store doesn't have: they don't count"
+    four = night_lines([*made[:3], made[5]])
     with Hub(place, store, releases=place.releases) as hub:
-        assert told(hub) == [taken[0] % (4, 5)]
-        client = hub.client()
-        assert rows(client) == first
-        assert client.ask("IMPORT n6") == ["OK 4 1 0"]
-        assert rows(client) == [*first, night_line(4, made[5])]
+        assert told(hub) == [taken % (4, 5)]
+        assert rows(hub.owner) == four[:3]
+        assert hub.owner.ask("IMPORT n6") == ["OK 4 1 0"]
+        assert rows(hub.owner) == four
     # One that no hub made.
     place.import_one(store, made[6])
     with Hub(place, store, releases=place.releases) as hub:
         assert told(hub) == ["it has no line for 1 of 5 imports, the first of which is 5"]
-        client = hub.client()
-        assert rows(client) == [*first, night_line(4, made[5]), "5" + NOTHING]
-        assert client.ask("IMPORT n8") == ["OK 6 1 0"]
+        assert rows(hub.owner) == [*four, "5" + NOTHING]
+        assert hub.owner.ask("IMPORT n8") == ["OK 6 1 0"]
     take_back(place, store, 2)
+    last = night_lines([*made[:2], made[8]])
     with Hub(place, store, releases=place.releases) as hub:
-        assert told(hub) == [taken[0] % (3, 6)]
-        client = hub.client()
-        assert client.ask("IMPORT n9") == ["OK 3 1 0"]
-        last = [*first[:2], night_line(3, made[8])]
-        assert rows(client) == last
-    with Hub(place, store) as hub:
-        assert told(hub) == []
-        assert rows(hub.client()) == last
+        assert told(hub) == [taken % (3, 6)]
+        assert hub.owner.ask("IMPORT n9") == ["OK 3 1 0"]
+        assert rows(hub.owner) == last
+    begins(place, store, [], last)
     assert [line for line in listed(store) if line.startswith("back")] == ["back\t3", "back\t2"]
 
 
 def test_take_back_that_was_none(place: Place) -> None:
     """Where an older store was served by mistake, its line `back` can be deleted again."""
-    store, made = place.make_store(), nights(place, 3)
-    with Hub(place, store, releases=place.releases) as hub:
-        for release in made:
-            hub.client().ask(f"IMPORT {release.name}")
-        lines = rows(hub.client())
+    store = place.make_store()
+    lines = imported(place, store, place.write_nights(3))
     before = list_of(store).read_bytes()
     store.rename(place.path("whole"))
     place.copy(place.path("whole"), "store", 2)
@@ -312,192 +298,152 @@ def test_take_back_that_was_none(place: Place) -> None:
     with Hub(place, store) as hub:
         assert told(hub) == ["it has no line for 1 of 3 imports, the first of which is 3"]
     list_of(store).write_bytes(after[: after.rindex(b"back")])
-    with Hub(place, store) as hub:
-        assert (told(hub), rows(hub.client())) == ([], lines)
+    begins(place, store, [], lines)
 
 
-GARBAGE = b"4\tnot a line\n"
-CUT = b"4\t2020-10-01T09:00"
+def appended(text: bytes) -> Callable[[Path], object]:
+    return lambda path: path.write_bytes(path.read_bytes() + text)
 
 
-def removed(path: Path) -> None:
-    path.unlink()
+def instead(make: Callable[[Path], None]) -> Callable[[Path], object]:
+    def change(path: Path) -> None:
+        path.unlink()
+        make(path)
 
-
-def with_garbage(path: Path) -> None:
-    path.write_bytes(path.read_bytes() + GARBAGE)
-
-
-def with_a_cut_line(path: Path) -> None:
-    path.write_bytes(path.read_bytes() + CUT)
-
-
-def of_another(path: Path) -> None:
-    path.write_bytes(b"somebody else's\n")
-
-
-def a_folder(path: Path) -> None:
-    path.unlink()
-    path.mkdir()
-
-
-def a_pipe(path: Path) -> None:
-    path.unlink()
-    os.mkfifo(path)
+    return change
 
 
 CHANGED = "another program has changed it: what it has now counts from the next start"
 UNREAD = "1 of its lines can't be read, the first of which is line 4"
 UNKNOWN = "it is no list of imports that this hub knows"
 NO_FILE = f"it is no file of {64 << 20} bytes at most"
+# What becomes of a list; what is told of it then and at the next start, and whether it is written.
+CHANGES: dict[str, tuple[Callable[[Path], object], str, list[str], bool]] = {
+    "removed": (Path.unlink, CHANGED, [], True),
+    "with garbage": (appended(b"4\tnot a line\n"), CHANGED, [UNREAD], True),
+    "with a cut line": (appended(b"4\t2020-10-01T09:00"), CHANGED, [], True),
+    "of another": (lambda path: path.write_bytes(b"somebody else's\n"), UNKNOWN, [UNKNOWN], False),
+    "a folder": (instead(Path.mkdir), "Is a directory", ["Is a directory", NO_FILE], False),
+    "a pipe": (instead(os.mkfifo), NO_FILE, [NO_FILE], False)}
 
 
-@pytest.mark.parametrize("change, told_meanwhile, told_at_start, is_written", (
-    (removed, CHANGED, [], True), (with_garbage, CHANGED, [UNREAD], True),
-    (with_a_cut_line, CHANGED, [], True), (of_another, UNKNOWN, [UNKNOWN], False),
-    (a_folder, "Is a directory", ["Is a directory", NO_FILE], False),
-    (a_pipe, NO_FILE, [NO_FILE], False)), ids=lambda one: getattr(one, "__name__", ""))
-def test_other_programs(place: Place, change: Callable[[Path], None], told_meanwhile: str,
+@pytest.mark.parametrize("change, told_meanwhile, told_at_start, is_written", CHANGES.values(),
+                         ids=CHANGES.keys())
+def test_other_programs(place: Place, change: Callable[[Path], object], told_meanwhile: str,
                         told_at_start: list[str], is_written: bool) -> None:
     """Whatever another program does with the list, imports go on, and it is told."""
-    store, made = place.make_store(), nights(place, 4)
-    path = list_of(store)
+    store, made = place.make_store(), place.write_nights(4)
     with Hub(place, store, releases=place.releases) as hub:
-        client = hub.client()
         for release in made[:2]:
-            client.ask(f"IMPORT {release.name}")
-        change(path)
-        assert client.ask("IMPORT n3") == ["OK 3 1 0"]
-        assert client.ask("STATUS") == ["OK 3 3 3 -" + " Unlisted" * (not is_written)]
-        lines = [night_line(number, release) for number, release in enumerate(made[:3], 1)]
-        assert rows(client) == lines
+            hub.owner.ask(f"IMPORT {release.name}")
+        change(list_of(store))
+        assert hub.owner.ask("IMPORT n3") == ["OK 3 1 0"]
+        assert hub.owner.ask("STATUS") == ["OK 3 3 3 -" + " Unlisted" * (not is_written)]
+        lines = night_lines(made)
+        assert rows(hub.owner) == lines[:3]
         said, = told(hub)
         assert told_meanwhile in said
-        hub.stop()
     with Hub(place, store, releases=place.releases) as hub:
-        client = hub.client()
-        assert client.ask("IMPORT n4") == ["OK 4 1 0"]
-        lines = lines if is_written else [f"{number}{NOTHING}" for number in (1, 2, 3)]
-        assert rows(client) == [*lines, night_line(4, made[3])]
+        assert hub.owner.ask("IMPORT n4") == ["OK 4 1 0"]
+        unwritten = [f"{number}{NOTHING}" for number in (1, 2, 3)]
+        assert rows(hub.owner) == (lines if is_written else [*unwritten, lines[3]])
         first = told(hub)[:1]
-        assert [any(text in one for text in told_at_start) for one in first] == [True] * len(first)
+        assert all(any(text in one for text in told_at_start) for one in first)
         assert bool(first) == bool(told_at_start)
-        hub.stop()
 
 
 def test_list_of_another_store(place: Place) -> None:
     """Lines that say something else than the receipts don't count."""
     store, other = place.make_store(), place.make_store("other")
-    with Hub(place, other) as hub:
-        for name in ("r2", "r1", "r3"):
-            hub.client().ask(f"IMPORT {name}")
-    for name in ("r1", "r2", "r3"):
-        place.import_one(store, RELEASES / name)
+    imported(place, other, [RELEASES / name for name in ("r2", "r1", "r3")])
+    place.import_all(store, SMALL_RELEASES)
     shutil.copy(list_of(other), list_of(store))
-    with Hub(place, store) as hub:
-        assert told(hub) == [
-            "2 of its lines have another number of new rows than the store, the first of them for "
-            "import 1: they don't count",
-            "it has no line for 2 of 3 imports, the first of which is 1"]
-        assert rows(hub.client()) == [
-            "1" + NOTHING, "2" + NOTHING, line_of(3, RELEASES / "r3", 2, 1)]
+    begins(place, store, [
+        "2 of its lines have another number of new rows than the store, the first of them for "
+        "import 1: they don't count",
+        "it has no line for 2 of 3 imports, the first of which is 1"],
+        ["1" + NOTHING, "2" + NOTHING, line_of(3, RELEASES / "r3", 2, 1)])
 
 
 # A line of a list that counts for nothing.
 NO_IMPORTS = "back\t0\t2020-01-01T00:00:00Z\n"
 
 
-def check_without_room(hub: Hub, store: Path, made: list[Path], fill: Callable[[], None],
-                       clear: Callable[[], None], why: str) -> None:
-    """Imports while there is no room for the list, and then while there is some again."""
-    client = hub.client()
-    client.ask("IMPORT n1")
-    before = list_of(store).read_bytes()
-    fill()
-    for number in (2, 3):
-        assert client.ask(f"IMPORT n{number}") == [f"OK {number} 1 0"]
-        assert client.ask("STATUS") == [f"OK {number} {number} {number} - Unlisted"]
-        assert list_of(store).read_bytes() == before
-    assert told(hub) == [f"{number} lines aren't written: {why}" for number in (1, 2)]
-    assert "ROW sctd_unlisted 2" in client.ask("METRICS")
-    lines = [night_line(number, release) for number, release in enumerate(made[:4], 1)]
-    assert rows(client) == lines[:3]
-    clear()
-    assert client.ask("IMPORT n4") == ["OK 4 1 0"]
-    assert client.ask("STATUS") == ["OK 4 4 4 -"]
-    assert rows(client) == lines
-    assert [line for line in listed(store) if "back" not in line] == lines
-
-
 def test_limit_of_a_file(place: Place) -> None:
     """Where the list may not grow, imports go on, and STATUS says that their lines are missing."""
-    store, made = place.make_store(), nights(place, 4)
+    store, lines = place.make_store(), night_lines(place.write_nights(4))
     # (The log of the hub is a file, too, which may grow.)
     list_of(store).write_text(FIRST_LINE + NO_IMPORTS * 1_000, encoding="utf-8")
     with Hub(place, store, releases=place.releases) as hub:
-        size = resource.RLIMIT_FSIZE
-        check_without_room(
-            hub, store, made,
-            # (Some of a line can be written.)
-            lambda: resource.prlimit(hub.process.pid, size, (
-                list_of(store).stat().st_size + 20, resource.RLIM_INFINITY)) and None,
-            lambda: resource.prlimit(hub.process.pid, size, (resource.RLIM_INFINITY,) * 2) and None,
-            "File too large")
+        hub.owner.ask("IMPORT n1")
+        before = list_of(store).read_bytes()
+        # (Some of a line can be written.)
+        limit_file(hub, len(before) + 20)
+        for number in (2, 3):
+            assert hub.owner.ask(f"IMPORT n{number}") == [f"OK {number} 1 0"]
+            assert hub.owner.ask("STATUS") == [f"OK {number} {number} {number} - Unlisted"]
+            assert list_of(store).read_bytes() == before
+        assert told(hub) == [f"{number} lines aren't written: File too large" for number in (1, 2)]
+        assert "ROW sctd_unlisted 2" in hub.owner.ask("METRICS")
+        assert rows(hub.owner) == lines[:3]
+        limit_file(hub, resource.RLIM_INFINITY)
+        assert hub.owner.ask("IMPORT n4") == ["OK 4 1 0"]
+        assert hub.owner.ask("STATUS") == ["OK 4 4 4 -"]
+        assert rows(hub.owner) == lines
+        assert [line for line in listed(store) if "back" not in line] == lines
+
+
+def limit_file(hub: Hub, most: int) -> None:
+    resource.prlimit(hub.process.pid, resource.RLIMIT_FSIZE, (most, resource.RLIM_INFINITY))
+
+
+def on_small_disk(place: Place, small_disk: Path) -> Path:
+    """A link to a store: so its list is on the small disk, and the store itself on another one."""
+    link = small_disk / "store"
+    link.symlink_to(place.make_store("own"))
+    return link
 
 
 def test_full_disk(place: Place, small_disk: Path) -> None:
-    """The same on a disk that is full. The store itself lies on another one."""
-    made, link = nights(place, 4), small_disk / "store"
-    place.make_store().rename(place.path("own"))
-    link.symlink_to(place.path("own"))
+    """The same on a disk that is full."""
+    made, link = place.write_nights(4), on_small_disk(place, small_disk)
     filler = small_disk / "filler"
 
-    def fill() -> None:
+    with Hub(place, link, releases=place.releases) as hub:
+        hub.owner.ask("IMPORT n1")
         # The list has a block of its own: what is longer than that needs another one.
         with open(list_of(link), "ab") as file:
             file.write(NO_IMPORTS.replace("0", "9", 1).encode() * 140)
-        with open(filler, "wb", buffering=0) as file:
+        with open(filler, "wb", buffering=0) as disk, contextlib.suppress(OSError):
             while True:
-                try:
-                    file.write(b"x" * 4096)
-                except OSError:
-                    break
-
-    with Hub(place, link, releases=place.releases) as hub:
-        hub.client().ask("IMPORT n1")
-        fill()
-        client = hub.client()
-        assert client.ask("IMPORT n2") == ["OK 2 1 0"]
-        assert client.ask("STATUS") == ["OK 2 2 2 - Unlisted"]
+                disk.write(b"x" * BLOCK)
+        assert hub.owner.ask("IMPORT n2") == ["OK 2 1 0"]
+        assert hub.owner.ask("STATUS") == ["OK 2 2 2 - Unlisted"]
         assert told(hub)[-1] == "1 lines aren't written: No space left on device"
         filler.unlink()
-        assert client.ask("IMPORT n3") == ["OK 3 1 0"]
-        assert client.ask("STATUS") == ["OK 3 3 3 -"]
+        assert hub.owner.ask("IMPORT n3") == ["OK 3 1 0"]
+        assert hub.owner.ask("STATUS") == ["OK 3 3 3 -"]
     with Hub(place, link) as hub:
-        assert rows(hub.client()) == [
-            night_line(number, release) for number, release in enumerate(made[:3], 1)]
+        assert rows(hub.client()) == night_lines(made[:3])
 
 
 def test_disk_without_a_right_to_write(place: Place, small_disk: Path) -> None:
     """The same where the list's disk may only be read."""
-    made, link = nights(place, 3), small_disk / "store"
-    place.make_store().rename(place.path("own"))
-    link.symlink_to(place.path("own"))
+    made, link = place.write_nights(3), on_small_disk(place, small_disk)
 
     def mount_again(how: str) -> None:
         subprocess.run(["mount", "-o", f"remount,{how}", str(small_disk)], check=True)
 
     with Hub(place, link, releases=place.releases) as hub:
-        client = hub.client()
-        client.ask("IMPORT n1")
+        hub.owner.ask("IMPORT n1")
         mount_again("ro")
-        assert client.ask("IMPORT n2") == ["OK 2 1 0"]
-        assert client.ask("STATUS") == ["OK 2 2 2 - Unlisted"]
+        assert hub.owner.ask("IMPORT n2") == ["OK 2 1 0"]
+        assert hub.owner.ask("STATUS") == ["OK 2 2 2 - Unlisted"]
         assert told(hub) == ["1 lines aren't written: Read-only file system"]
         mount_again("rw")
         # As the hub ends, what is missing is written.
         assert hub.stop() == 0
-    assert listed(link) == [night_line(number, one) for number, one in enumerate(made[:2], 1)]
+    assert listed(link) == night_lines(made[:2])
     mount_again("ro")
     with Hub(place, link, releases=place.releases) as hub:
         assert told(hub) == []
@@ -511,54 +457,43 @@ def test_disk_without_a_right_to_write(place: Place, small_disk: Path) -> None:
 
 def test_copies_have_it(place: Place) -> None:
     """A copy has the list of the imports that it has; without it there is no copy."""
-    store, made = place.make_store(), nights(place, 3)
+    store, made = place.make_store(), place.write_nights(3)
     copy, other = place.path("copy"), place.path("other")
     with Hub(place, store, releases=place.releases) as hub:
-        client = hub.client()
-        assert client.ask(f"BACKUP {other}") == ["OK 0 0 0"]
+        assert hub.owner.ask(f"BACKUP {other}") == ["OK 0 0 0"]
         assert not list_of(other).exists()
         for release in made[:2]:
-            client.ask(f"IMPORT {release.name}")
-        assert client.ask(f"BACKUP {copy}") == ["OK 2 2 2"]
-        client.ask("IMPORT n3")
+            hub.owner.ask(f"IMPORT {release.name}")
+        assert hub.owner.ask(f"BACKUP {copy}") == ["OK 2 2 2"]
+        hub.owner.ask("IMPORT n3")
         list_of(place.path("third")).write_text("somebody else's", encoding="utf-8")
-        assert client.ask(f"BACKUP {place.path('third')}") == [
+        assert hub.owner.ask(f"BACKUP {place.path('third')}") == [
             "ERR hub Backup the list of imports: File exists"]
         assert not place.path("third").exists()
     assert list_of(place.path("third")).read_text("utf-8") == "somebody else's"
-    assert listed(copy) == [night_line(number, one) for number, one in enumerate(made[:2], 1)]
+    assert listed(copy) == night_lines(made[:2])
     assert mode(list_of(copy)) == 0o600
     with Hub(place, copy, "--read-only", has_own=False, asks=True) as hub:
         assert told(hub) == []
         assert rows(hub.asker()) == listed(copy)
 
 
-TAKE = "examples/take_copy.py"
-
-
 def test_readers_have_it(place: Place) -> None:
     """take_copy.py puts the list of a copy in its place, too."""
-    store, made = place.make_store(), nights(place, 2)
-    reader, copy = place.path("reader"), place.path("copy")
-    with Hub(place, store, releases=place.releases) as hub:
-        for release in made:
-            hub.client().ask(f"IMPORT {release.name}")
-        assert hub.client().ask(f"BACKUP {copy}") == ["OK 2 2 2"]
+    store, reader, copy = place.make_store(), place.path("reader"), place.path("copy")
+    imported(place, store, place.write_nights(2))
     shutil.copy(store, reader)
     list_of(reader).write_text(FIRST_LINE, encoding="utf-8")
     with Hub(place, store, asks=True) as hub:
-        done = place.run_script(TAKE, "--program", place.program, "--store", reader, "--questions",
-                                hub.questions, copy, "true")
-        assert (done.returncode, done.stdout) == (0, b"OK 2\n"), done.stderr
+        assert hub.client().ask(f"BACKUP {copy}") == ["OK 2 2 2"]
+        ran = place.run_script(TAKE, "--program", place.program, "--store", reader, "--questions",
+                               hub.questions, copy, "true")
+        assert ran[:2] == (0, "OK 2\n"), ran.faults
     assert listed(reader) == listed(store)
     assert not (copy.exists() or list_of(copy).exists())
 
 
-CLIENT = "examples/client.py"
-
-
 def with_times(store: Path, *times: str) -> None:
-    """Gives the lines of a list these times."""
     given = iter(times)
     text = list_of(store).read_text("utf-8")
     list_of(store).write_text(re.sub(TIME, lambda _: next(given), text), encoding="utf-8")
@@ -567,28 +502,26 @@ def with_times(store: Path, *times: str) -> None:
 def test_client_of_a_day(place: Place) -> None:
     """`client.py --known` asks as of the last import by the end of a day, and says which it is."""
     store = place.make_store()
-    with Hub(place, store) as hub:
-        for name in ("r1", "r2", "r3"):
-            hub.client().ask(f"IMPORT {name}")
+    imported(place, store, SMALL_RELEASES)
     with_times(store, "2020-02-01T23:59:59Z", "2021-02-01T00:00:00Z", "2021-02-01T12:00:00Z")
     lines = b"PIN\nRECEIPT 1\nRECEIPT 2\nGET C 1000004 20210131\n"
     active = "ROW 1000004\t20200131\t1\t900000000000207008\t900000000000074008\nEND 1\n"
     with Hub(place, store, asks=True) as hub:
-        done = place.run_script(CLIENT, "--known", "2020-12-31", hub.questions, given=lines[4:])
-        assert done.stdout.decode() == "OK 1 6 20200131\nERR 44 PinRange\n" + active
-        assert done.stderr.decode() == (
+        def known(day: str, given: bytes = lines) -> Ran:
+            return place.run_script(CLIENT, "--known", day, hub.questions, given=given)
+
+        assert known("2020-12-31", lines[4:])[1:] == (
+            "OK 1 6 20200131\nERR 44 PinRange\n" + active,
             "client: known on 2020-12-31: pin 1, import made at 2020-02-01T23:59:59Z\n")
-        done = place.run_script(CLIENT, "--known", "2021-02-01", hub.questions, given=b"RECEIPT 3")
-        assert (done.returncode, done.stdout) == (0, b"OK 3 2 20200731\n")
-        for day, why in (("2020-01-31", "NoImport the day 2020-01-31 is before the first import, "
-                          "which was made at 2020-02-01T23:59:59Z"), ("9999-12-31", "NoImport the "
-                          "day 9999-12-31 hasn't begun: days are those of UTC")):
-            done = place.run_script(CLIENT, "--known", day, hub.questions, given=lines)
-            assert (done.returncode, done.stdout) == (1, b"")
-            wanted = f"KNOWN {day.replace('-', '')} was answered ERR hub {why}\n"
-            assert done.stderr.decode() == "client: " + wanted
-        bad = place.run_script(CLIENT, "--known", "today", hub.questions, given=lines)
-        assert (bad.returncode, bad.stdout) == (1, b"")
+        assert known("2021-02-01", b"RECEIPT 3")[:2] == (0, "OK 3 2 20200731\n")
+        for day, why in (
+                ("2020-01-31", "the day 2020-01-31 is before the first import, which was made at "
+                 "2020-02-01T23:59:59Z"),
+                ("9999-12-31", "the day 9999-12-31 hasn't begun: days are those of UTC")):
+            asked = f"KNOWN {day.replace('-', '')}"
+            wanted = f"client: {asked} was answered ERR hub NoImport {why}\n"
+            assert known(day) == (1, "", wanted)
+        assert known("today")[:2] == (1, "")
 
 
 # What OPERATE tells to do where a store is lost. (A copy of the list is taken where that is lost
@@ -607,7 +540,7 @@ done
 def test_restore(place: Place, is_lost: bool) -> None:
     """After a restore the store and its list are what they were, with the times that they had; and
     if the list is lost too, the copy's is taken, and the log has what came after it."""
-    store, made = place.make_store("terms.store"), nights(place, 6)
+    store, made = place.make_store("terms.store"), place.write_nights(6)
     days = [f"2020-10-{day:02}T01:00:00Z" for day in range(1, 6)]
     with Hub(place, store, releases=place.releases) as hub:
         for number, release in enumerate(made[:5], 1):
@@ -627,15 +560,14 @@ def test_restore(place: Place, is_lost: bool) -> None:
     again = b"" if is_lost else b"OK 4 1 0\nOK 5 1 0\n"
     assert (done.returncode, done.stdout) == (0, b"OK\n" + again), done.stderr
     with Hub(place, store, releases=place.releases) as hub:
-        client = hub.client()
         assert told(hub) == []
         if is_lost:
-            assert client.ask("STATUS") == ["OK 3 3 3 -"]
-            assert client.ask("IMPORT n4") == ["OK 4 1 0"]
-            assert len(rows(client)) == 4
+            assert hub.owner.ask("STATUS") == ["OK 3 3 3 -"]
+            assert hub.owner.ask("IMPORT n4") == ["OK 4 1 0"]
+            assert len(rows(hub.owner)) == 4
         else:
-            assert client.ask("KNOWN 20201004") == ["OK 4 2020-10-04T01:00:00Z"]
-            assert client.ask("IMPORT n6") == ["OK 6 1 0"]
+            assert hub.owner.ask("KNOWN 20201004") == ["OK 4 2020-10-04T01:00:00Z"]
+            assert hub.owner.ask("IMPORT n6") == ["OK 6 1 0"]
             assert list_of(store).read_bytes().startswith(before)
     if not is_lost:
         assert place.digest(store, 5) == digest

@@ -7,13 +7,11 @@ store at once, and again beside a server: each release that was answered OK has 
 the next opening, and no other. The lines in the help of `serve` have to be requests, and the
 demonstration what a case of bench/cases/ says."""
 
-from __future__ import annotations
-
+import contextlib
 import os
 import pty
 import re
 import resource
-import select
 import shutil
 import subprocess
 from collections.abc import Callable, Mapping, Sequence
@@ -22,17 +20,15 @@ from typing import NamedTuple
 
 import pytest
 
-from harness import TOP, Place, Server, mode
+from case_texts import row
+from harness import TOP, Place, Server, head_of, mode
 
 # How long a call may take.
 SECONDS = 10
 # How many bytes of a terminal are read at a time.
 READ_BYTES = 1 << 16
-# The lines of the demonstration with their replies, as cases are written, and what the names there
-# stand for.
+# The lines of the demonstration with their replies, as cases are written.
 DEMONSTRATION = TOP / "bench" / "cases" / "demonstration.txt"
-MEANINGS = {"CORE": "900000000000207008", "PRIM": "900000000000074008",
-            "SYN": "900000000000013009", "ECI": "900000000000448009"}
 # How many lines the help of `serve` has as examples, and the refusals of a line that is no request.
 EXAMPLES = 37
 NO_REQUEST = ("ERR 40 ", "ERR 41 ", "ERR 42 ", "ERR 43 ")
@@ -40,7 +36,7 @@ CONCEPTS = "sct2_Concept_Delta_INT_20200131.txt"
 FULL_CONCEPTS = "sct2_Concept_Full_INT_20200131.txt"
 # What is told of a file that stands in a folder which isn't read.
 OUT_OF_PLACE = "sctd: warning: passed over %s, whose name is one to take: "
-COLUMNS = "id\teffectiveTime\tactive\tmoduleId\tdefinitionStatusId\n"
+COLUMNS = head_of("C")
 ROOT_ROW = "138875005\t%s\t1\t900000000000207008\t900000000000074008\n"
 ROW = ROOT_ROW % "20200131"
 ROWS = COLUMNS + ROW
@@ -50,20 +46,17 @@ HOLDER = re.compile(r"in use by another process, whose id is (\d+)\n$")
 OTHER_USER = 65534
 # A row of a language reference set, and one of a text definition, of the root concept.
 LANGUAGE = "der2_cRefset_LanguageDelta-en_INT_20200131.txt"
-LANGUAGE_COLUMNS = (
-    "id\teffectiveTime\tactive\tmoduleId\trefsetId\treferencedComponentId\tacceptabilityId\n")
+LANGUAGE_COLUMNS = head_of("Language")
 LANGUAGE_ROWS = LANGUAGE_COLUMNS + (
     "0b6a0c2e-5d0f-4c53-9f6e-8d9d2a7b1c01\t20200131\t1\t900000000000207008\t900000000000509007\t"
     "1000015\t900000000000548007\n")
 DEFINITIONS = "sct2_TextDefinition_Delta-en_INT_20200131.txt"
-DEFINITION_ROWS = (
-    "id\teffectiveTime\tactive\tmoduleId\tconceptId\tlanguageCode\ttypeId\tterm\t"
-    "caseSignificanceId\n"
+DEFINITION_COLUMNS = head_of("TextDefinition")
+DEFINITION_ROWS = DEFINITION_COLUMNS + (
     "1000015\t20200131\t1\t900000000000207008\t138875005\ten\t900000000000550004\tAll of it.\t"
     "900000000000448009\n")
 ASSOCIATIONS = "Refset/Content/der2_cRefset_AssociationFull_INT_20200131.txt"
-ASSOCIATION_COLUMNS = ("id\teffectiveTime\tactive\tmoduleId\trefsetId\treferencedComponentId\t"
-                       "targetComponentId\n")
+ASSOCIATION_COLUMNS = head_of("A")
 PARTS = "no folder Terminology or Refset/Content in it"
 # The package of the guide, a question for what a concept of it was called, and one of these terms.
 PACKAGE = TOP / "docs" / "package" / "Full"
@@ -71,6 +64,9 @@ CALLED = "0 CALLED 2000001 20200630 900000000000509007\n"
 TERM = b"Path"
 MISSING, FAILED, DAMAGED = "ERR 45 NoFolder", "ERR 2 DiskFault", "ERR 8 Damaged"
 IMPORT = ("import", "--quiet", "--store", "store", "--releases", "releases")
+READ_ONLY = "--read-only"
+# The releases that are beside a store, of a row each.
+NAMES = ("r1", "r2", "r3", "r4")
 
 # What stands at a path: a text, or what makes it.
 Made = str | Callable[[Path], object]
@@ -102,9 +98,9 @@ def write(folder: Path, files: Files) -> None:
 def place_with_releases(place: Place) -> Place:
     """The program, beside releases of a row each."""
     place.seconds = SECONDS
-    for number in range(1, 5):
-        write(place.releases / f"r{number}",
-              {f"Terminology/{CONCEPTS}": COLUMNS + ROOT_ROW % f"{2019 + number}0131", **USUAL})
+    for year, name in enumerate(NAMES, 2020):
+        rows = COLUMNS + ROOT_ROW % f"{year}0131"
+        write(place.releases / name, {f"Terminology/{CONCEPTS}": rows, **USUAL})
     return place
 
 
@@ -138,7 +134,6 @@ def of_release(files: Files, name: str, why: str, reply: str = MISSING, warned: 
 
 
 def package(inner: str) -> Mistake:
-    """A package's top folder."""
     path = f"{inner}/Terminology/{CONCEPTS}"
     return of_release({f"package/{path}": ROWS}, "package", f"{PARTS}; its folder {inner}",
                       warned=[OUT_OF_PLACE % path])
@@ -243,8 +238,7 @@ def test_mistakes(place: Place, mistake: Mistake) -> None:
     ["--releases", "releases", "package/Full/"], ["releases/package/Full"],
     ["./releases//package/Full//"], ["alone"], ["alone/"], ["{}/releases/package/Full"]))
 def test_names(place: Place, store: Path, words: Sequence[str]) -> None:
-    """Names as people type them: with slashes at the end, and paths without a folder of
-    releases."""
+    """Names as people type them: with slashes at the end, and paths without --releases."""
     for folder in ("releases/package/Full", "alone"):
         write(place.path(folder), {f"Terminology/{CONCEPTS}": ROWS, **USUAL})
     named = [word.format(place.folder) for word in words]
@@ -269,7 +263,6 @@ def test_forged_names(place: Place) -> None:
 
 @pytest.mark.parametrize("is_quiet", (False, True))
 def test_telling(place: Place, store: Path, is_quiet: bool) -> None:
-    """What an import tells beside its reply."""
     near = "xsct2_Concept_full_INT_20200131.txt"
     write(place.releases / "told", {
         f"Terminology/{CONCEPTS}": ROWS, f"Terminology/{near}": COLUMNS,
@@ -323,7 +316,7 @@ class Taken(NamedTuple):
 USUAL = {f"Refset/Content/der2_cRefset_{name}Delta_INT_20210131.txt": LANGUAGE_COLUMNS
          for name in ("Language", "AttributeValue")}
 USUAL[ASSOCIATIONS] = ASSOCIATION_COLUMNS
-USUAL[f"Terminology/{DEFINITIONS}"] = DEFINITION_ROWS.partition("\n")[0] + "\n"
+USUAL[f"Terminology/{DEFINITIONS}"] = DEFINITION_COLUMNS
 WHOLE = {f"Refset/Language/{LANGUAGE}": LANGUAGE_ROWS,
          f"Terminology/{DEFINITIONS}": DEFINITION_ROWS}
 BETA = f"Refset/Language/x{LANGUAGE}"
@@ -345,8 +338,7 @@ TAKEN = {
 
 
 def takes(place: Place, store: Path, taken: Taken) -> None:
-    files: dict[str, str | Callable[[Path], object]] = {
-        f"Terminology/{CONCEPTS}": ROWS, **USUAL, **taken.files}
+    files: Files = {f"Terminology/{CONCEPTS}": ROWS, **USUAL, **taken.files}
     write(place.releases / "package", files)
     ran = place.run("import", "--store", store, "--releases", "releases", "package")
     lines = ran.faults.splitlines()
@@ -434,8 +426,7 @@ def demonstrated() -> list[str]:
         if line.startswith("> "):
             shown.append(line)
         elif line.startswith("< "):
-            columns = line[2:].split("|")
-            shown.append("\t".join(MEANINGS.get(column, column) for column in columns))
+            shown.append(row(line[2:]))
     return shown
 
 
@@ -453,15 +444,10 @@ def test_demonstration_on_a_terminal(place: Place) -> None:
                          stdout=other, stderr=other, timeout=SECONDS, check=False)
     os.close(other)
     shown = b""
-    while select.select([main], [], [], 0.1)[0]:
-        try:
-            piece = os.read(main, READ_BYTES)
-        except OSError:
-            break
-        if not piece:
-            break
-        shown += piece
-    os.close(main)
+    # (Behind the last byte a read fails.)
+    with open(main, "rb", buffering=0) as terminal, contextlib.suppress(OSError):
+        while piece := terminal.read(READ_BYTES):
+            shown += piece
     assert ran.returncode == 0
     assert shown.decode().replace("\r\n", "\n").splitlines() == demonstrated()
 
@@ -481,7 +467,6 @@ def test_no_permission(place: Place, store: Path) -> None:
 
 
 def test_a_full_disk(place: Place, small_disk: Path) -> None:
-    """A file system without room."""
     place.make_store("small/store")
     other = small_disk / "other"
     room = os.statvfs(small_disk)
@@ -513,10 +498,6 @@ def link_copy(path: Path) -> None:
     path.symlink_to(f"{path}-copy")
 
 
-def bytes_of(path: Path) -> bytes | None:
-    return path.read_bytes() if path.exists() else None
-
-
 @pytest.mark.parametrize("change, left", (
     (move_copy, "OK 1 1 1 -\n"), (link_copy, "OK 1 1 1 -\n"), (Path.unlink, None),
     (lambda path: os.truncate(path, 16384), None)),
@@ -529,11 +510,13 @@ def test_replaced(place: Place, store: Path, change: Callable[[Path], object],
     with Server(place, "store", place.releases) as server:
         assert server.ask("STATUS") == ["OK 1 1 1 -"]
         change(store)
-        before = bytes_of(store)
+        before = place.contents()
         assert server.ask("IMPORT r2") == [FAILED]
         assert (server.end(), server.unread) == (0, b"")
         assert server.told() == "sctd: store: the file was replaced or removed while it was open\n"
-    assert bytes_of(store) == before
+    after = place.contents()
+    after["faults"] = before["faults"]
+    assert after == before
     if left:
         assert place.run("status", "--store", store)[:2] == (0, left)
 
@@ -567,9 +550,6 @@ def test_other_user(place: Place, store: Path) -> None:
         assert ran[:2] == (1, "ERR 2 DiskFault\n")
         assert HOLDER.findall(ran.faults) == [str(holder.pid)]
     assert place.run("status", "--store", store)[:2] == (0, "OK 0 0 0 -\n")
-
-
-NAMES = ("r1", "r2", "r3", "r4")
 
 
 def import_at_once(place: Place, holder: int | None = None) -> int:
@@ -618,8 +598,6 @@ def test_beside_a_server(place: Place) -> None:
 
 
 # ---- A store that is only read
-
-READ_ONLY = "--read-only"
 
 
 def is_refused(place: Place, *words: str | Path) -> None:

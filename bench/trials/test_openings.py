@@ -32,9 +32,8 @@ WRONG_SETTINGS = {
 
 def ended(place: Place, store: Path, *words: str) -> Ran:
     """How a hub ends that can't begin."""
-    done = place.run_script(HUB, "--program", place.program, "--store", store, "--releases",
+    return place.run_script(HUB, "--program", place.program, "--store", store, "--releases",
                             RELEASES, "--socket", place.path("hub"), *words)
-    return Ran(done.returncode, done.stdout.decode(), done.stderr.decode("utf-8", "replace"))
 
 
 def files(folder: Path) -> list[str]:
@@ -53,9 +52,8 @@ def test_first_start(place: Place, home: Path) -> None:
     store = home / "a.store"
     with Hub(place, store, "--make-store") as hub:
         assert hub.first_line == "OK ready"
-        own = hub.client()
-        assert own.ask("STATUS") == ["OK 0 0 0 -"]
-        assert own.ask("IMPORT r1") == ["OK 1 6 0"]
+        assert hub.owner.ask("STATUS") == ["OK 0 0 0 -"]
+        assert hub.owner.ask("IMPORT r1") == ["OK 1 6 0"]
         assert hub.told().split("\n")[0] == f"hub: {store}: a new store"
     assert files(home) == ["a.store", "a.store.imports", "first-start", "releases"]
     assert ": layout 3, " in place.run("status", "--store", store).faults

@@ -5,8 +5,6 @@ such as don't, and damage under a served store. What many clients and a year of 
 stands in test_duties.py; other files in the store's place, forged names and locks, in
 test_mistakes.py."""
 
-from __future__ import annotations
-
 import collections
 import hashlib
 import itertools
@@ -16,7 +14,7 @@ import re
 import shutil
 import subprocess
 import time
-from collections.abc import Iterator, Sequence
+from collections.abc import Sequence
 from pathlib import Path
 
 import pytest
@@ -56,10 +54,7 @@ ASKED_NAMES = 20
 ALL = "--all"
 NO_ROWS = hashlib.sha256(b"").hexdigest()
 LATER_LAYOUT = ["ERR 14 LaterVersion"]
-# A file of a reference set whose last column may have any text, and how its lines end.
-MAP_FILE = "Refset/Map/der2_sRefset_SimpleMapDelta_INT_20250131.txt"
-MAP_COLUMNS = ("id\teffectiveTime\tactive\tmoduleId\trefsetId\treferencedComponentId\tmapTarget"
-               "\r\n")
+# Rows of a reference set whose last column may have any text, and how their lines end.
 MAP_ROW = ("0b6a0c2e-5d0f-4c53-9f6e-8d9d2a7b1c%02x\t20250131\t1\t900000000000207008\t"
            "900000000000497000\t%d\tA00%s")
 LINE_ENDS = ("\n", "\r\n", "\r\r\n", "\r")
@@ -80,15 +75,6 @@ def basic_files(release: Path, to: Path) -> Path:
 
 
 # ---- A release that is tried before it counts
-
-
-def write_faulty(place: Place) -> None:
-    """Releases that are refused: a column too few, a row that contradicts one of r1, no release."""
-    short = concept(1, DATE).rpartition("\t")[0]
-    write_release(place.releases / "faulty", {"C": [concept(2, DATE), short]}, DATE)
-    other = f"1000004\t20200131\t0\t{rf2.CORE}\t{rf2.PRIMITIVE}"
-    write_release(place.releases / "contradicting", {"C": [concept(3, DATE), other]}, DATE)
-    (place.releases / "empty").mkdir()
 
 
 def check_told(place: Place, store: Path, name: str) -> Ran:
@@ -115,9 +101,13 @@ def checked_is_imported(place: Place, store: Path, name: str, wanted: str) -> No
 @pytest.mark.parametrize("layout", (2, 3))
 def test_checks(place: Place, layout: int) -> None:
     """What CHECK answers IMPORT answers next, and CHECK leaves the store as it is."""
-    for name in ("r1", "r2", "r3"):
-        place.link_release(name)
-    write_faulty(place)
+    place.link_releases()
+    # A column too few, a row that contradicts one of r1, and no release.
+    short = concept(1, DATE).rpartition("\t")[0]
+    write_release(place.releases / "faulty", {"C": [concept(2, DATE), short]}, DATE)
+    other = f"1000004\t20200131\t0\t{rf2.CORE}\t{rf2.PRIMITIVE}"
+    write_release(place.releases / "contradicting", {"C": [concept(3, DATE), other]}, DATE)
+    (place.releases / "empty").mkdir()
     store = place.make_store(layout=layout)
     for name, wanted in (
             ("r1", "OK 1 6 0"), ("r2", "OK 2 4 0"), ("r1", "OK 3 0 6"), ("r3", "OK 4 2 1"),
@@ -126,15 +116,6 @@ def test_checks(place: Place, layout: int) -> None:
             ("../r1", "ERR 43 Arguments")):
         checked_is_imported(place, store, name, wanted)
     assert place.status(store) == "OK 4 12 3 -"
-
-
-def store_of_halves(place: Place, first: range, second: range) -> Path:
-    """A store into which concepts of these numbers were imported, and then others."""
-    store = place.make_store()
-    for name, half in (("half1", first), ("half2", second)):
-        rows = {"C": [concept(one, DATE) for one in half]}
-        place.import_one(store, write_release(place.releases / name, rows, DATE))
-    return store
 
 
 def contradictions_told(place: Place, store: Path, numbers: range) -> tuple[list[str], list[str]]:
@@ -157,7 +138,10 @@ def test_contradictions(place: Place) -> None:
     """Each contradiction is told with its file and line, and the import that brought the other row;
     where there are too many, how many more there are."""
     first, second = range(1, 4), range(4, MOST_TOLD + 6)
-    store = store_of_halves(place, first, second)
+    store = place.make_store()
+    for name, half in (("half1", first), ("half2", second)):
+        rows = {"C": [concept(one, DATE) for one in half]}
+        place.import_one(store, write_release(place.releases / name, rows, DATE))
     places, more = contradictions_told(place, store, range(1, 7))
     others = [line.partition(" of the same id and date: ")[2] for line in places]
     assert others == ["import %d brought %s" % (number, concept(one, DATE).replace("\t", "\\t"))
@@ -384,12 +368,13 @@ def each_digest(place: Place, store: Path, wanted: Sequence[str]) -> None:
     assert found == ["OK " + one for one in [wanted[-1], *wanted[1:], *wanted[1:]]]
 
 
-def test_digests(place: Place) -> None:
+@pytest.mark.parametrize("layout, words", ((2, []), (3, [ALL])))
+def test_digests(place: Place, layout: int, words: list[str]) -> None:
     """The digest is the one that is computed from the releases' files, in whatever way a store came
-    to its rows and keeps them."""
-    full, delta = made(place)
-    wanted = [NO_ROWS, place.digest_of(full), place.digest_of(full, delta)]
-    store = place.make_store()
+    to its rows and keeps them: in layout 3 from all files of a package."""
+    full, delta = made(place, is_package=layout == 3)
+    wanted = [NO_ROWS, place.digest_of(*words, full), place.digest_of(*words, full, delta)]
+    store = place.make_store(layout=layout)
     place.import_all(store, [full, delta])
     each_digest(place, store, wanted)
     each_digest(place, place.copy(store, "copy"), wanted)
@@ -404,33 +389,16 @@ def test_digests(place: Place) -> None:
     each_digest(place, store, [*wanted, wanted[2], wanted[2]])
     other = place.make_store("other", layout=3)
     place.import_all(other, [delta, full])
-    each_digest(place, other, [NO_ROWS, place.digest_of(delta), wanted[2]])
-
-
-def test_digests_of_members(place: Place) -> None:
-    """The same of a store of layout 3 that has all files of a package."""
-    full, delta = made(place, is_package=True)
-    wanted = [NO_ROWS, place.digest_of(ALL, full), place.digest_of(ALL, full, delta)]
-    store = place.make_store(layout=3)
-    place.import_all(store, [full, delta])
-    each_digest(place, store, wanted)
-    each_digest(place, place.copy(store, "first", imports=1), wanted[:2])
-    place.done("merge", "--store", store)
-    each_digest(place, store, wanted)
-    each_digest(place, place.copy(store, "copy"), wanted)
-    other = place.make_store("other", layout=3)
-    place.import_all(other, [delta, full])
-    each_digest(place, other, [NO_ROWS, place.digest_of(ALL, delta), wanted[2]])
+    each_digest(place, other, [NO_ROWS, place.digest_of(*words, delta), wanted[2]])
 
 
 def test_digest_of_line_ends(place: Place) -> None:
     """The same of lines that end with LF, with CR LF, with CR CR LF, and at the end of a file with
     CR alone: a CR before no LF is the end of a member's last column."""
-    release = write_release(place.path("ends"), {"C": [concept(1)]})
-    path = release / MAP_FILE
-    path.parent.mkdir(parents=True)
+    release = write_release(place.path("ends"), {"C": [concept(1)], "SimpleMap": []})
     rows = [MAP_ROW % (number, concept_id(1), end) for number, end in enumerate(LINE_ENDS)]
-    path.write_bytes((MAP_COLUMNS + "".join(rows)).encode())
+    with open(next(release.rglob("*SimpleMap*")), "ab") as file:
+        file.write("".join(rows).encode())
     store = place.make_store(layout=3)
     assert place.import_one(store, release) == f"OK 1 {1 + len(LINE_ENDS)} 0"
     each_digest(place, store, [NO_ROWS, place.digest_of(ALL, release)])
@@ -453,13 +421,6 @@ def test_digest_refused(place: Place) -> None:
 # ---- A package in stores of each layout
 
 
-def of_members(full: Path) -> Iterator[str]:
-    """Lines that ask for members, and what some concepts of a release were called."""
-    yield from OF_MEMBERS
-    for code, *_ in itertools.islice(rf2.rows_of(full, "C"), ASKED_NAMES):
-        yield from (f"CALLED {code} {LATE} {language}" for language in rf2.LANGUAGES)
-
-
 def test_packages_below(place: Place) -> None:
     """A store of layout 2 takes from a package what it keeps, as if nothing else was there."""
     full, delta = made(place, is_package=True)
@@ -479,7 +440,10 @@ def test_the_rest(place: Place) -> None:
     """A store of layout 2 takes the rest of a package once it was copied in layout 3 and the Full
     release is imported again; what was reported before stays as it was."""
     full, delta = made(place, is_package=True)
-    store, lines = place.make_store(), list(of_members(full))
+    named = itertools.islice(rf2.rows_of(full, "C"), ASKED_NAMES)
+    lines = OF_MEMBERS + [f"CALLED {code} {LATE} {language}" for code, *_ in named
+                          for language in rf2.LANGUAGES]
+    store = place.make_store()
     place.import_all(store, [full, delta])
     before, digest = reports(place, store, 2), place.digest(store)
     assert place.ask(store, lines) == [LATER_LAYOUT] * len(lines)
@@ -510,9 +474,8 @@ def test_the_rest(place: Place) -> None:
 @pytest.mark.parametrize("meets", (FIRST_QUESTION, "IMPORT r1", "CHECK r1", "DIGEST"))
 @pytest.mark.parametrize("layout", (2, 3))
 def test_damage(place: Place, layout: int, meets: str) -> None:
-    """Once a line has met damage under a served store, nothing is confirmed until the store is
-    opened again."""
-    place.link_release("r1")
+    """Once a line has met damage, nothing is confirmed until the store is opened again."""
+    place.link_releases("r1")
     new = write_release(place.releases / "new", {"C": [concept(1, DATE)]}, DATE)
     store = place.small_store(layout)
     before, digest = store.read_bytes(), place.digest(store)

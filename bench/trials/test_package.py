@@ -231,7 +231,6 @@ def test_types(made: Made) -> None:
 
 
 def test_lintian(made: Made) -> None:
-    """Lintian finds no error in it."""
     if shutil.which("lintian") is None:
         pytest.skip("there is no lintian")
     _, told = run("lintian", "--allow-root", str(made.first))

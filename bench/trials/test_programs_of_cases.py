@@ -6,16 +6,14 @@ wrong transcript comes to.) A program that isn't built here is left out."""
 
 import shutil
 import subprocess
-from pathlib import Path
+from collections.abc import Iterator
 
 import pytest
 
 from harness import TOP, Place
 
 SECONDS = 60
-ELSE = "something else came"
 LACKS_COUNT = "the case doesn't end with the number of its questions"
-UNKNOWN = "it asks nothing that is known"
 # What a run prints whose output is taken, and then not written.
 NAMES = TOP / "crates" / "store_cases" / "data" / "cases" / "names.txt"
 UNWRITTEN = "\n= ".join(line[2:] for line in NAMES.read_text(encoding="utf-8").splitlines()
@@ -56,7 +54,6 @@ QUESTIONS = [
      "1: 2 new, 0 repeated", "1: 1 new, 0 repeated"),
     ("history_cases", "", "spread 250", "250 lists", "249 lists"),
 ]
-PROGRAMS = sorted({row[0] for row in QUESTIONS})
 # Questions that are none, each behind some parts.
 NONE = [
     ("store_cases", "", "run nothing"), ("store_cases", LINES, "way lines depth 5"),
@@ -82,64 +79,43 @@ def run_with(program: str, place: Place, text: str) -> tuple[int, str]:
     return done.returncode, done.stdout.decode()
 
 
-def check_fails(program: str, place: Place, text: str, line: int, why: str) -> None:
-    status, printed = run_with(program, place, text)
-    assert f"FAILED wrong: wrong.txt, line {line}: {why}\n" in printed and status == 1
-
-
 def case_of(before: str, question: str, answer: str, count: int = 1) -> str:
-    """A case with a question."""
     first, *more = answer.split("\n= ")
     arrow = f" -> {first}" if not more else " ->" + "".join(f"\n= {one}" for one in (first, *more))
     return f"{before}case wrong\n{question}{arrow}\nasked {count}\n"
 
 
-@pytest.mark.parametrize("program, before, question, right, wrong", QUESTIONS)
-def test_another_answer(place: Place, program: str, before: str, question: str, right: str,
-                        wrong: str) -> None:
-    status, printed = run_with(program, place, case_of(before, question, right))
-    assert "FAILED" not in printed and status == 0
-    text = case_of(before, question, wrong)
-    check_fails(program, place, text, text.count("\n"), ELSE)
+def wrong_files() -> Iterator[tuple[str, str, int, str]]:
+    """Each program with wrong files, the line in which each fails, and why."""
+    for program, before, question, right, wrong in QUESTIONS:
+        text = case_of(before, question, wrong)
+        yield program, text, text.count("\n"), "something else came"
+        text = case_of(before, question, right, 2)
+        line = text.count("\n")
+        yield program, text, line, "it isn't the number of questions above"
+        yield program, text.replace("asked 2\n", ""), line - 1, LACKS_COUNT
+    for program, before, question in NONE:
+        text = case_of(before, question, "done")
+        yield program, text, text.count("\n") - 1, "it asks nothing that is known"
+    for program in sorted({row[0] for row in QUESTIONS}):
+        yield program, "case wrong\nshelve it\nasked 1\n", 2, "its answer lacks"
+        yield program, "case wrong\n= done\n", 2, "it stands behind no question"
+        yield program, "case wrong\nasked 0\n", 2, LACKS_COUNT
+        yield program, "# A comment alone.\n", 1, "no case stands in the file"
+    program, before, question, right, _ = QUESTIONS[0]
+    text = LINES + case_of(before, question, right)
+    yield program, text, text.count("\n"), "no case asks for one of its parts"
 
 
-@pytest.mark.parametrize("program, before, question", NONE)
-def test_no_question(place: Place, program: str, before: str, question: str) -> None:
-    text = case_of(before, question, "done")
-    check_fails(program, place, text, text.count("\n") - 1, UNKNOWN)
-
-
-@pytest.mark.parametrize("program", PROGRAMS)
-@pytest.mark.parametrize("text, line, why", [
-    ("case wrong\nshelve it\nasked 1\n", 2, "its answer lacks"),
-    ("case wrong\n= done\n", 2, "it stands behind no question"),
-    ("case wrong\nasked 0\n", 2, LACKS_COUNT),
-])
-def test_no_case(place: Place, program: str, text: str, line: int, why: str) -> None:
-    check_fails(program, place, text, line, why)
+@pytest.mark.parametrize("program, text, line, why", wrong_files())
+def test_wrong_files(place: Place, program: str, text: str, line: int, why: str) -> None:
+    status, printed = run_with(program, place, text)
+    what = "the file" if why.startswith("no case") else "wrong"
+    assert f"FAILED {what}: wrong.txt, line {line}: {why}\n" in printed and status == 1
 
 
 @pytest.mark.parametrize("program, before, question, right, _", QUESTIONS)
-def test_another_number_of_questions(place: Place, program: str, before: str, question: str,
-                                     right: str, _: str) -> None:
-    text = case_of(before, question, right, 2)
-    line = text.count("\n")
-    check_fails(program, place, text, line, "it isn't the number of questions above")
-    check_fails(program, place, text.replace("asked 2\n", ""), line - 1, LACKS_COUNT)
-
-
-@pytest.mark.parametrize("program, before, question, right, _", QUESTIONS[:1])
-def test_a_part_that_nobody_asks(place: Place, program: str, before: str, question: str,
-                                 right: str, _: str) -> None:
-    text = LINES + case_of(before, question, right)
-    line = text.count("\n")
-    told = f"FAILED the file: wrong.txt, line {line}: no case asks for one of its parts\n"
-    status, printed = run_with(program, place, text)
-    assert told in printed and status == 1
-
-
-@pytest.mark.parametrize("program", PROGRAMS)
-def test_a_file_without_a_case(place: Place, program: str) -> None:
-    status, printed = run_with(program, place, "# A comment alone.\n")
-    assert "FAILED the file: wrong.txt, line 1: no case stands in the file\n" in printed
-    assert status == 1
+def test_right_answers(place: Place, program: str, before: str, question: str, right: str,
+                       _: str) -> None:
+    status, printed = run_with(program, place, case_of(before, question, right))
+    assert "FAILED" not in printed and status == 0

@@ -64,22 +64,16 @@ class Script:
         return self.process.returncode, told
 
 
-def ends_with(done: subprocess.CompletedProcess[bytes], why: str, status: int = 1) -> None:
-    """A run of a script printed nothing, and says why in one line."""
-    assert (done.returncode, done.stdout, done.stderr.decode()) == (status, b"", why + "\n")
-
-
 # ---- client.py
 
 
 @pytest.mark.parametrize("given, printed, status", (
-    (b"STATUS", b"OK 2 10 2 -\n", 0), (b"", b"", 0),
-    (b"STEP 1\nSTATUS\n", b"ERR 11 NoMerge\nOK 2 10 2 -\n", 1),
-    (b"STATUS\nx\n", b"OK 2 10 2 -\nERR 42 Command\n", 1)))
-def test_client(hub: Hub, place: Place, given: bytes, printed: bytes, status: int) -> None:
+    (b"STATUS", "OK 2 10 2 -\n", 0), (b"", "", 0),
+    (b"STEP 1\nSTATUS\n", "ERR 11 NoMerge\nOK 2 10 2 -\n", 1),
+    (b"STATUS\nx\n", "OK 2 10 2 -\nERR 42 Command\n", 1)))
+def test_client(hub: Hub, place: Place, given: bytes, printed: str, status: int) -> None:
     """client.py ends with 1 after an ERR, and never with a traceback."""
-    done = place.run_script(CLIENT, hub.socket, given=given)
-    assert (done.stdout, done.returncode, done.stderr) == (printed, status, b"")
+    assert place.run_script(CLIENT, hub.socket, given=given) == (status, printed, "")
 
 
 def test_client_unread(hub: Hub, place: Place) -> None:
@@ -110,7 +104,8 @@ def test_client_whose_hub_ends(hub: Hub, place: Place) -> None:
     ("x" * 200, "AF_UNIX path too long")))
 def test_client_without_hub(place: Place, store: Path, path: str, why: str) -> None:
     path = path.format(store.parent)
-    ends_with(place.run_script(CLIENT, path, given=b"STATUS\n"), f"client: {path}: {why}")
+    told = f"client: {path}: {why}\n"
+    assert place.run_script(CLIENT, path, given=b"STATUS\n") == (1, "", told)
 
 
 # ---- What was known of records
@@ -184,11 +179,10 @@ def ids(numbers: str) -> str:
 
 def read(place: Place, hub: Hub, given: bytes, *words: str) -> list[list[str]]:
     """The rows that read_records.py prints."""
-    done = place.run_script(READER, "--socket", hub.questions, *words, given=given)
-    if done.returncode or b"Traceback" in done.stderr:
-        raise Wrong(f"read_records.py: status {done.returncode}, {done.stderr[-300:]!r}")
-    text = done.stdout.decode("utf-8", "surrogateescape")
-    return list(csv.reader(io.StringIO(text, newline=""), strict=True))
+    ran = place.run_script(READER, "--socket", hub.questions, *words, given=given)
+    if ran.status or "Traceback" in ran.faults:
+        raise Wrong(f"read_records.py: status {ran.status}, {ran.faults[-300:]!r}")
+    return list(csv.reader(io.StringIO(ran.output, newline=""), strict=True))
 
 
 def written(rows: Iterable[Sequence[object]]) -> bytes:
@@ -224,8 +218,7 @@ def test_readings(place: Place) -> None:
         rows.append(["", day, "", bad, ""])
         wanted.append([*rows[-1], *[""] * 6, why])
     with with_release(place, "chains", CHAINS) as hub:
-        client = hub.client()
-        receipt = client.ask("RECEIPT 1")[0]
+        receipt = hub.owner.ask("RECEIPT 1")[0]
         header = ["Patient", " Date", "note", "CODE", "x"]
         found = read(place, hub, written([header, *rows]))
         assert found[0] == header + ADDED
@@ -234,7 +227,7 @@ def test_readings(place: Place) -> None:
         assert len(found) == len(rows) + 1
         # A later import changes nothing for those who pin the run.
         write_release(place.releases / "late", {"C": [concept(1, "20230131", 0)]})
-        assert client.ask("IMPORT late") == ["OK 2 1 0"]
+        assert hub.owner.ask("IMPORT late") == ["OK 2 1 0"]
         again = read(place, hub, written([header, *rows]), "--pin", "1")
         assert again == found
         now = read(place, hub, written([["code", "date"], [concept_id(1), "20120630"]]))
@@ -316,8 +309,8 @@ def test_spreadsheets(place: Place, chains: Hub, start: bytes, mark: str, separa
     """What spreadsheets write."""
     file = b"n,code,date\r\n\r\n1,%d,20120630" % concept_id(1)
     file = start + file.replace(b",", separator.encode())
-    done = place.run_script(READER, "--socket", chains.questions, given=file)
-    rows = list(csv.reader(done.stdout.decode().splitlines(), delimiter=separator))
+    ran = place.run_script(READER, "--socket", chains.questions, given=file)
+    rows = list(csv.reader(ran.output.splitlines(), delimiter=separator))
     assert rows[0] == [mark + "n", "code", "date", *ADDED]
     assert rows[1][3:7] == ["1", ONE, "1", NEW]
 
@@ -339,8 +332,8 @@ def test_no_imports(place: Place) -> None:
 def test_bad_runs(place: Place, chains: Hub, given: bytes, words: list[str], status: int,
                   why: str) -> None:
     """What ends a run is said in one line."""
-    done = place.run_script(READER, "--socket", chains.questions, *words, given=given)
-    ends_with(done, f"read_records: {why}", status)
+    ran = place.run_script(READER, "--socket", chains.questions, *words, given=given)
+    assert ran == (status, "", f"read_records: {why}\n")
 
 
 @pytest.mark.parametrize("count", (1, 100_000))
@@ -362,8 +355,8 @@ def test_runs_whose_hub_ends(place: Place) -> None:
         left.input.write(b"%d,20120630\n" % concept_id(1) * 100)
         left.input.close()
         assert left.ended() == (1, "read_records: the hub has ended\n")
-    ends_with(place.run_script(READER, "--socket", hub.questions, given=b"code,date\n"),
-              f"read_records: {hub.questions}: No such file or directory")
+    assert place.run_script(READER, "--socket", hub.questions, given=b"code,date\n") == (
+        1, "", f"read_records: {hub.questions}: No such file or directory\n")
 
 
 def memory_of_run(place: Place, hub: Hub, count: int) -> int:

@@ -3,15 +3,17 @@
 Each trial puts a fault into its parts, and has few lines served on a store without rows with each
 request for memory refused in turn. What it prints then has to say what is wrong."""
 
+import re
 import shutil
+from collections.abc import Mapping
 from pathlib import Path
-from typing import Optional, Sequence
+from typing import NamedTuple, Sequence
 
 import pytest
 
 import growths_lines
 import growths_room
-from growths_harness import Program, Refusals
+from growths_harness import Program
 from growths_lines import Runs, Served
 from harness import RELEASES, Place, Ran
 from soak_model import Model, Reply
@@ -20,114 +22,83 @@ LINES = ["0 STATUS", "0 IMPORT r1", "0 GET C 1000004 20200131"]
 IMPORTED = "0 IMPORT r1"
 # More refusals than there are.
 TOO_MANY = 1_000_000
+MORE_WANTED = f"NOT TRIED: {TOO_MANY} refusals of it are wanted"
+RUN, REPLY = Program.run, Model.reply
 
 
-class Generous(Program):
-    """A program to which no request for memory is refused, whatever is asked for."""
-
-    def run(self, words: Sequence[str], folder: Path, given: str = "",
-            refusals: Optional[Refusals] = None,
-            around: Optional[dict[str, str]] = None) -> tuple[Ran, bool]:
-        return super().run(words, folder, given)
+def generous(program: Program, words: Sequence[str], folder: Path, given: str = "",
+             *_: object) -> tuple[Ran, bool]:
+    """A run in which no request for memory is refused, whatever is asked for."""
+    return RUN(program, words, folder, given)
 
 
-def runs_on(place: Place, kind: type[Program] = Program) -> Runs:
-    """The runs of the lines, of which each that takes memory has to be refused."""
+def other(model: Model, line: str) -> Reply:
+    said = REPLY(model, line)
+    return [text[:-1] for text in said] if line == IMPORTED else said
+
+
+class Fault(NamedTuple):
+    """What is changed, what is printed then, how often, and how many refusals an import needs."""
+
+    changes: Mapping[str, object] = {}
+    told: str = ""
+    times: int = 1
+    least: int = 1
+
+
+OF_LINES = {
+    "all is right": Fault(),
+    "memory never runs out": Fault({"growths_harness.Program.run": generous}, "NOTHING TRIED"),
+    "another reply is expected": Fault({"soak_model.Model.reply": other}, (
+        rf"^WRONG with 1 refused: .*{IMPORTED!r}: \['OK 1 6 0'\]")),
+    "more refusals of a line are wanted": Fault({"growths_lines.LEAST": TOO_MANY}, MORE_WANTED),
+    "more refusals of an opening are wanted": Fault(
+        {"growths_lines.LEAST_STARTS": TOO_MANY}, "NOTHING TRIED"),
+    "no refusal of a line is wanted": Fault(
+        {"growths_lines.NONE_READ": ("OK", "END", "ERR")}, "refused, as if memory had run out")}
+OF_ROOM = {
+    "all is right": Fault(),
+    "there is always room": Fault(
+        {"growths_room.STEP": TOO_MANY}, "IMPORT r1: refused 1\nNOT TRIED", least=2),
+    "more refusals are wanted": Fault(
+        {"growths_room.LEAST_MADE": TOO_MANY, "growths_room.LEAST_OPENED": TOO_MANY}, MORE_WANTED,
+        times=3, least=TOO_MANY),
+    "a line is refused that takes nothing": Fault(
+        told="NOT TRIED: no refusals of it are wanted", least=0),
+    "another reply is expected": Fault(
+        {"soak_model.Model.reply": lambda model, line: ["OK 1 6 1"]},
+        r"WRONG: 'IMPORT r1': \['OK 1 6 0'\]")}
+
+
+def change(patch: pytest.MonkeyPatch, changes: Mapping[str, object]) -> None:
     if shutil.which("cc") is None:
         pytest.skip("there is no C compiler")
+    for name, value in changes.items():
+        patch.setattr(name, value)
+
+
+def is_told(fault: Fault, is_right: bool, printed: str) -> None:
+    """A run is right where nothing has to be told, and else tells it."""
+    assert is_right == (not fault.told), printed
+    assert is_right or len(re.findall(fault.told, printed)) == fault.times, printed
+
+
+@pytest.mark.parametrize("fault", OF_LINES.values(), ids=OF_LINES.keys())
+def test_lines(place: Place, monkeypatch: pytest.MonkeyPatch, capsys: pytest.CaptureFixture[str],
+               fault: Fault) -> None:
+    # (That many lines are refused in one run can't be wanted of so few.)
+    change(monkeypatch, {"growths_lines.MANY": 1, **fault.changes})
     store = place.make_store("empty", layout=3)
     served = Served(LINES, RELEASES, growths_lines.samples(), store, keeps_all=True,
                     is_script=True)
-    return Runs(kind(place.program, place.folder), place.folder, served)
+    runs = Runs(Program(place.program, place.folder), place.folder, served)
+    is_told(fault, runs.are_right(), capsys.readouterr().out)
 
 
-@pytest.fixture(autouse=True)
-def few_lines(monkeypatch: pytest.MonkeyPatch) -> None:
-    """That many lines are refused in one run can't be wanted of so few."""
-    monkeypatch.setattr(growths_lines, "MANY", 1)
-
-
-def test_all_is_right(place: Place, capsys: pytest.CaptureFixture[str]) -> None:
-    assert runs_on(place).are_right(), capsys.readouterr().out
-
-
-def test_memory_never_runs_out(place: Place, capsys: pytest.CaptureFixture[str]) -> None:
-    assert not runs_on(place, Generous).are_right()
-    assert "NOTHING TRIED" in capsys.readouterr().out
-
-
-def test_another_reply_is_expected(place: Place, monkeypatch: pytest.MonkeyPatch,
-                                   capsys: pytest.CaptureFixture[str]) -> None:
-    reply = Model.reply
-
-    def other(model: Model, line: str) -> Reply:
-        said = reply(model, line)
-        return [text[:-1] for text in said] if line == IMPORTED else said
-
-    monkeypatch.setattr(Model, "reply", other)
-    assert not runs_on(place).are_right()
-    told = capsys.readouterr().out
-    assert told.startswith("WRONG with 1 refused") and f"{IMPORTED!r}: ['OK 1 6 0']" in told
-
-
-def test_more_refusals_of_a_line_are_wanted(place: Place, monkeypatch: pytest.MonkeyPatch,
-                                            capsys: pytest.CaptureFixture[str]) -> None:
-    monkeypatch.setattr(growths_lines, "LEAST", TOO_MANY)
-    assert not runs_on(place).are_right()
-    assert f"NOT TRIED: {TOO_MANY} refusals of it are wanted" in capsys.readouterr().out
-
-
-def test_more_refusals_of_an_opening_are_wanted(place: Place, monkeypatch: pytest.MonkeyPatch,
-                                                capsys: pytest.CaptureFixture[str]) -> None:
-    monkeypatch.setattr(growths_lines, "LEAST_STARTS", TOO_MANY)
-    assert not runs_on(place).are_right()
-    assert "NOTHING TRIED" in capsys.readouterr().out
-
-
-def test_no_refusal_of_a_line_is_wanted(place: Place, monkeypatch: pytest.MonkeyPatch,
-                                        capsys: pytest.CaptureFixture[str]) -> None:
-    monkeypatch.setattr(growths_lines, "NONE_READ", ("OK", "END", "ERR"))
-    assert not runs_on(place).are_right()
-    assert "refused, as if memory had run out" in capsys.readouterr().out
-
-
-def rooms_on(place: Place, monkeypatch: pytest.MonkeyPatch, least: int = 1) -> bool:
-    """Whether few lines that have too little room are refused as often as they have to be."""
-    if shutil.which("cc") is None:
-        pytest.skip("there is no C compiler")
-    monkeypatch.setattr(growths_room, "LINES", ((IMPORTED[2:], least), ("TRIM", 0)))
-    monkeypatch.setattr(growths_room, "MERGED", "OK 1 6 1 -\n")
-    return growths_room.are_right(Program(place.program, place.folder), place.folder)
-
-
-def test_all_is_right_with_little_room(place: Place, monkeypatch: pytest.MonkeyPatch,
-                                       capsys: pytest.CaptureFixture[str]) -> None:
-    assert rooms_on(place, monkeypatch), capsys.readouterr().out
-
-
-def test_there_is_always_room(place: Place, monkeypatch: pytest.MonkeyPatch,
-                              capsys: pytest.CaptureFixture[str]) -> None:
-    monkeypatch.setattr(growths_room, "STEP", TOO_MANY)
-    assert not rooms_on(place, monkeypatch, 2)
-    assert "IMPORT r1: refused 1\nNOT TRIED" in capsys.readouterr().out
-
-
-def test_more_refusals_for_want_of_room_are_wanted(place: Place, monkeypatch: pytest.MonkeyPatch,
-                                                   capsys: pytest.CaptureFixture[str]) -> None:
-    monkeypatch.setattr(growths_room, "LEAST_MADE", TOO_MANY)
-    monkeypatch.setattr(growths_room, "LEAST_OPENED", TOO_MANY)
-    assert not rooms_on(place, monkeypatch, TOO_MANY)
-    assert capsys.readouterr().out.count(f"NOT TRIED: {TOO_MANY} refusals of it are wanted") == 3
-
-
-def test_a_line_is_refused_that_takes_nothing(place: Place, monkeypatch: pytest.MonkeyPatch,
-                                              capsys: pytest.CaptureFixture[str]) -> None:
-    assert not rooms_on(place, monkeypatch, 0)
-    assert "NOT TRIED: no refusals of it are wanted" in capsys.readouterr().out
-
-
-def test_another_reply_with_room_is_expected(place: Place, monkeypatch: pytest.MonkeyPatch,
-                                             capsys: pytest.CaptureFixture[str]) -> None:
-    monkeypatch.setattr(Model, "reply", lambda model, line: ["OK 1 6 1"])
-    assert not rooms_on(place, monkeypatch)
-    assert "WRONG: 'IMPORT r1': ['OK 1 6 0']" in capsys.readouterr().out
+@pytest.mark.parametrize("fault", OF_ROOM.values(), ids=OF_ROOM.keys())
+def test_room(place: Place, monkeypatch: pytest.MonkeyPatch, capsys: pytest.CaptureFixture[str],
+              fault: Fault) -> None:
+    change(monkeypatch, {"growths_room.LINES": ((IMPORTED[2:], fault.least), ("TRIM", 0)),
+                         "growths_room.MERGED": "OK 1 6 1 -\n", **fault.changes})
+    is_right = growths_room.are_right(Program(place.program, place.folder), place.folder)
+    is_told(fault, is_right, capsys.readouterr().out)

@@ -60,10 +60,9 @@ def test_two_clients(place: Place) -> None:
         assert hub.client().ask(QUESTION) == [AS_IN_2021, "END 1"]
         lines = f"STATUS\n{QUESTION}\nTERMS 20200131 10 Straße\n"
         # In a locale that isn't UTF-8, its lines and replies are the same bytes.
-        done = place.run_script("examples/client.py", hub.socket, given=lines.encode(),
-                                PYTHONIOENCODING="latin-1")
-        wanted = f"OK 2 10 2 -\n{AS_IN_2021}\nEND 1\n{TERM_IN_2020}\nEND 1\n"
-        assert (done.stdout, done.returncode) == (wanted.encode(), 0)
+        ran = place.run_script("examples/client.py", hub.socket, given=lines.encode(),
+                               PYTHONIOENCODING="latin-1")
+        assert ran[:2] == (0, f"OK 2 10 2 -\n{AS_IN_2021}\nEND 1\n{TERM_IN_2020}\nEND 1\n")
 
 
 def test_bad_clients(hub: Hub) -> None:
@@ -139,20 +138,19 @@ def test_turns(place: Place, store: Path) -> None:
     them."""
     recording = place.wrapped(RECORDER)
     with Hub(recording, store) as hub:
-        client = hub.client()
         # (The hub's own lines come first.)
-        assert client.ask("STATUS") == STATUS
+        assert hub.owner.ask("STATUS") == STATUS
         asked = [f"RECEIPT {1 + number % 2}" for number in range(100)]
         asked[40] = "x" * 5_000
-        client.send("".join(line + "\n" for line in asked).encode())
+        hub.owner.send("".join(line + "\n" for line in asked).encode())
         wanted = {"RECEIPT 1": ["OK 1 6 20200131"], "RECEIPT 2": ["OK 2 4 20210131"]}
         for number, line in enumerate(asked):
-            assert client.read() == wanted.get(line, ["ERR 40 Long"]), f"line {number} of many"
-        client.send(b"RECEIPT 1\nDIGEST\nAT 2 DIGEST\n" * DIGESTS)
+            assert hub.owner.read() == wanted.get(line, ["ERR 40 Long"]), f"line {number} of many"
+        hub.owner.send(b"RECEIPT 1\nDIGEST\nAT 2 DIGEST\n" * DIGESTS)
         for _ in range(DIGESTS):
-            assert client.read() == wanted["RECEIPT 1"]
+            assert hub.owner.read() == wanted["RECEIPT 1"]
             for _ in range(2):
-                assert client.read() == ["OK " + DIGEST_IN_2021]
+                assert hub.owner.read() == ["OK " + DIGEST_IN_2021]
     counts = [int(part) for part in recording.path("parts").read_text("ascii").split()]
     assert max(counts) == LINES_A_CLIENT
     lines = iter(recording.path("lines").read_bytes().splitlines())
@@ -224,12 +222,11 @@ def test_damage(hub: Hub, store: Path) -> None:
     """A store that is changed while it is served: standard error says that it is damaged."""
     assert hub.first_line == "OK ready"
     flip(store)
-    client = hub.client()
-    assert client.ask("GET C 1000004 20200131") == ["ERR 8 Damaged"]
+    assert hub.owner.ask("GET C 1000004 20200131") == ["ERR 8 Damaged"]
     # No reply is lost behind one, or comes to another client.
-    client.send(b"RECEIPT 1\nGET C 1000004 20200131\nRECEIPT 2\nSTATUS\n")
+    hub.owner.send(b"RECEIPT 1\nGET C 1000004 20200131\nRECEIPT 2\nSTATUS\n")
     for wanted in ("OK 1 6 20200131", "ERR 8 Damaged", "OK 2 4 20210131", STATUS[0] + " Damaged"):
-        assert client.read() == [wanted]
+        assert hub.owner.read() == [wanted]
     assert hub.client().ask("RECEIPT 1") == ["OK 1 6 20200131"]
     assert hub.stop() == 1
     first, last = hub.logged()
@@ -240,14 +237,12 @@ def test_damage(hub: Hub, store: Path) -> None:
 
 @pytest.mark.parametrize("asks", (False, True))
 def test_kill_program(hub: Hub, asks: bool) -> None:
-    """Where the program ends, the hub ends, so that what started it starts it again: also where
-    nobody asks."""
+    """Where the program ends, the hub ends, to be started again: also where nobody asks."""
     program, = hub.programs()
-    idle = hub.client()
-    assert idle.ask("STATUS") == STATUS
+    assert hub.owner.ask("STATUS") == STATUS
     os.kill(program, signal.SIGKILL)
     if asks:
-        idle.send(b"STATUS\n")
+        hub.owner.send(b"STATUS\n")
     assert (hub.end(), hub.told()) == (1, "hub: the program has ended\n")
 
 
@@ -266,12 +261,11 @@ for line in sys.stdin.buffer:
         others = [hub.client() for _ in range(10)]
         for other in others:
             assert other.ask("STATUS") == STATUS
-        client = hub.client()
-        client.send(b"RECEIPT 2\n")
+        hub.owner.send(b"RECEIPT 2\n")
         until("the line comes to the program", failing.path("begun").exists)
         for other in others:
             other.send(b"STATUS\n")
-        assert client.read() == ["ERR 2 DiskFault"]
+        assert hub.owner.read() == ["ERR 2 DiskFault"]
         assert {other.line() for other in others} == {b""}
         assert hub.end() == 1
 
@@ -321,8 +315,7 @@ def waiting(client: Client) -> int:
 
 
 def are_told(client: Client, count: int) -> bool:
-    """Whether so many bytes wait for a client, as soon as they do; and no once no more have come
-    for QUIET seconds."""
+    """Whether so many bytes wait for a client; no once no more have come for QUIET seconds."""
     told, since = waiting(client), time.monotonic()
     while told < count and time.monotonic() - since < QUIET:
         time.sleep(0.005)
@@ -362,6 +355,6 @@ def test_left_unread(place: Place, store: Path) -> None:
     ["--socket", "s", "--merge-above", "0"], ["--questions", "s", "--group", "no such group"]))
 def test_words(place: Place, store: Path, words: list[str]) -> None:
     """What isn't understood of the words is said, with status 2."""
-    done = place.run_script(HUB, "--program", place.program, "--store", store, "--releases",
-                            place.folder, *words)
-    assert (done.returncode, done.stdout) == (2, b"")
+    ran = place.run_script(HUB, "--program", place.program, "--store", store, "--releases",
+                           place.folder, *words)
+    assert ran[:2] == (2, "")

@@ -69,8 +69,7 @@ class Place:
 
 @contextmanager
 def given_input(given: Given) -> Iterator[int]:
-    """What a command reads: nothing, a pipe, one that gives a piece at a time, or what can't be
-    read."""
+    """What a command reads: nothing, a pipe, a piece at a time, or what can't be read."""
     if given.sent is None:
         unreadable = os.open(UNREADABLE, os.O_RDONLY)
         try:

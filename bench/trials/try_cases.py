@@ -11,9 +11,6 @@ to fail in the line and for the reason that its heading has. The last line is `N
 and the status is 0 where there were cases and none failed. Standard library alone.
 """
 
-from __future__ import annotations
-
-import argparse
 import re
 import shutil
 import sys
@@ -23,13 +20,13 @@ from itertools import zip_longest
 from pathlib import Path
 from typing import Optional
 
-from case_texts import FOLDER, LAST_WORDS, SHARED, TOP, WRONG, Block, Fault, File, Line, blocks_of
-from case_texts import files_of, files_of_cases, number_of, numbers_of, reply, write_release
+from case_texts import FOLDER, SHARED, WRONG, Block, Fault, File, Line, blocks_of, files_of
+from case_texts import files_of_cases, number_of, numbers_of, reply, write_release
+from harness import LAST_WORDS, RELEASES as SAMPLES, parser_of
 from transcripts import Given, Place, differences, place_for, text_of
 
 # The folders that each case finds in its own: those beside the transcripts, and the samples.
 DATA = ("packages", "releases", "rows", "spoiled")
-SAMPLES = TOP / "docs" / "releases"
 STORE, RELEASES = "store", "releases"
 SERVE = ("sctd", "serve", "--store", STORE, "--releases", RELEASES)
 # How many cases are carried out at a time: they mostly wait for the disk.
@@ -159,8 +156,6 @@ def spelled(status: Optional[int], output: bytes, faults: bytes) -> str:
 
 
 class Case:
-    """A case that is being carried out in a folder of its own."""
-
     def __init__(self, place: Place, file: File) -> None:
         self.place, self.file = place, file
         self.run: Optional[Run] = None
@@ -192,7 +187,6 @@ class Case:
             run.carry_out(self.place)
 
     def command(self, line: Line) -> None:
-        """Begins a run of the program."""
         if self.layout or line.rest.split(" ")[0] != "sctd":
             raise Fault(line.number, "no word of a case of lines" if self.layout
                         else "no run of the program")
@@ -236,7 +230,6 @@ class Case:
         self.server(line)
 
     def ask(self, line: Line) -> None:
-        """Sends the lines of a part."""
         server = self.server(line)
         for asked in self.file.part(line):
             if asked.word not in (">", "<"):
@@ -286,7 +279,6 @@ class Case:
         self.store.write_bytes(data[:first] + bytes([byte]) * (end - first) + data[end:])
 
     def write_sample(self, line: Line) -> None:
-        """Copies a sample release to a folder."""
         self.finish()
         folder, _, name = line.rest.partition(" ")
         if name not in (path.name for path in SAMPLES.iterdir()):
@@ -337,7 +329,6 @@ class Cases:
         self.passed = self.failed = 0
 
     def count(self, name: str, path: Path, fault: Optional[Fault]) -> None:
-        """Counts a case, and tells its end."""
         print("FAILED %s: %s, %s" % (name, path.name, fault) if fault else "ok " + name)
         if fault and fault.told:
             print(fault.told)
@@ -384,9 +375,7 @@ class Cases:
 
 
 def main() -> int:
-    assert __doc__
-    parser = argparse.ArgumentParser(description=__doc__.strip().split("\n", maxsplit=1)[0])
-    parser.add_argument("program", type=Path, metavar="PROGRAM")
+    parser = parser_of(__doc__)
     parser.add_argument("--wrong", action="store_true", help="try those that have to fail")
     parser.add_argument("files", nargs="*", type=Path, metavar="FILE")
     asked = parser.parse_args()

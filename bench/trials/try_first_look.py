@@ -22,7 +22,7 @@ import tempfile
 import time
 from collections.abc import Iterator
 from pathlib import Path
-from typing import NamedTuple
+from urllib.parse import urlsplit
 
 import chromium
 from harness import NotRun, Wrong, parser_of, same, tell
@@ -39,33 +39,27 @@ BUILD_SECONDS, SECONDS = 1800, 120
 # What of this tree ./try needs; of crates/ what the program is built from.
 TAKEN = ("try", "packaging", "service", "examples", "docs/package", "bench/unproved.py",
          "crates.txt")
-PAGE = re.compile(r"^The page: +(http://127\.0\.0\.1:(\d+)/\S+)$", re.M)
-FHIR = re.compile(r"^FHIR: +(.*)$", re.M)
-LINE = re.compile(r"^A line to ask: +(.*)$", re.M)
-VERSION = re.compile(r"\((\S.* --version)\)$", re.M)
 WANTED_FHIR = '"name":"display","valueString":"Street"'
 WANTED_LINE = "ROW 1000004\t20200131\t1\t900000000000207008\t900000000000074008\nEND 1\n"
 WANTED_PAGE = "SNOMED CT 1000004 |Street (environment)| on 2020-06-30: active"
 NOT_PROVED = "NOT PROVED"
 
 
-class Told(NamedTuple):
+class Told:
     """What ./try prints: the address of the page and its port, commands, and all of it."""
 
-    page: str
-    port: int
-    fhir: str
-    line: str
-    version: str
-    text: str
+    def __init__(self, text: str) -> None:
+        self.text = text
+        self.page = self.found(r"^The page: +(http://127\.0\.0\.1:\d+/\S+)$")
+        self.port = urlsplit(self.page).port or 0
+        self.fhir, self.line = self.found("^FHIR: +(.*)$"), self.found("^A line to ask: +(.*)$")
+        self.version = self.found(r"\((\S.* --version)\)$")
 
-
-def told_in(text: str) -> Told:
-    found = [pattern.search(text) for pattern in (PAGE, FHIR, LINE, VERSION)]
-    page, fhir, line, version = found
-    if not (page and fhir and line and version):
-        raise Wrong("what it prints lacks something: %r" % text)
-    return Told(page[1], int(page[2]), fhir[1], line[1], version[1], text)
+    def found(self, pattern: str) -> str:
+        found = re.search(pattern, self.text, re.M)
+        if not found:
+            raise Wrong("what it prints lacks something: %r" % self.text)
+        return found[1]
 
 
 def shell(command: str) -> str:
@@ -101,8 +95,6 @@ def put_program(clone: Path, program: Path) -> None:
 
 
 class Look:
-    """A first look that is running."""
-
     def __init__(self, clone: Path, *words: str, **around: str) -> None:
         self.process = subprocess.Popen(
             [str(clone / "try"), *words], cwd="/", env=os.environ | around,
@@ -124,7 +116,7 @@ class Look:
 
     def told(self, seconds: float) -> Told:
         self.read_until("Ctrl-C ends all.\n", seconds)
-        return told_in(self.text)
+        return Told(self.text)
 
     def interrupt(self) -> int:
         """Its status after Ctrl-C."""
@@ -151,7 +143,6 @@ def is_open(port: int) -> bool:
 
 
 def asks(told: Told) -> None:
-    """The three lines, as they are printed."""
     same("the line to ask", shell(told.line), WANTED_LINE)
     answer = shell(told.fhir)
     same("whether FHIR answers %r" % answer[:300], WANTED_FHIR in answer, True)
@@ -174,7 +165,6 @@ def by_chromium(told: Told) -> None:
 
 
 def first(clone: Path, is_built: bool) -> None:
-    """The first time."""
     begun = time.monotonic()
     with looking(clone) as look:
         told = look.told(BUILD_SECONDS if is_built else SECONDS)

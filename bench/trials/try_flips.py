@@ -18,7 +18,7 @@ from collections import Counter
 from collections.abc import Iterator, Sequence
 from pathlib import Path
 
-from harness import BLOCK, LAST_WORDS, Place, Server, Wrong, parser_of, tell
+from harness import BLOCK, Place, Server, Wrong, parser_of, replies_in, tell
 import make_release
 
 # How many components of a sort of files are asked for.
@@ -59,7 +59,6 @@ class Store:
             self.segments.append((BLOCK * first, BLOCK * first + length))
 
     def place(self, at: int) -> str:
-        """What stands at a place of the file."""
         if at in GATES:
             return "gate"
         if self.directory <= at < self.directory + 8:
@@ -78,20 +77,14 @@ class Store:
             file.write(bytes([byte]))
 
 
-def answers(place: Place, store: Path, lines: Sequence[str]) -> list[str]:
+def answers(place: Place, store: Path, lines: Sequence[str]) -> list[list[str]]:
     """What a server writes for lines, and first of its state: the reply to each."""
     asked = "".join(f"0 {line}\n" for line in ("STATUS", *lines))
     ran = place.run("serve", "--store", store, "--releases", place.releases, given=asked)
-    replies = [""]
-    for line in ran.output.splitlines(keepends=True):
-        replies[-1] += line
-        if line.split(" ")[0].rstrip("\n") in LAST_WORDS:
-            replies.append("")
-    return replies[:-1]
+    return replies_in(ran.output)
 
 
 def chosen(store: Store, chance: random.Random, bits: int) -> Iterator[Bit]:
-    """The bits that are turned over."""
     at = store.directory
     yield from ((at + k // 8, 1 << k % 8) for k in range(64))
     for start, count, length in ((at, DIRECTORY_BITS, BLOCK), (store.older, DIRECTORY_BITS, BLOCK),
@@ -100,7 +93,7 @@ def chosen(store: Store, chance: random.Random, bits: int) -> Iterator[Bit]:
             yield start + chance.randrange(length), 1 << chance.randrange(8)
 
 
-def flipped(place: Place, store: Store, bit: Bit, before: Sequence[Sequence[str]],
+def flipped(place: Place, store: Store, bit: Bit, before: Sequence[Sequence[list[str]]],
             lines: Sequence[str]) -> Fate:
     """What became of a bit, where lines were answered like this before, and before that."""
     at, value = bit
@@ -125,7 +118,7 @@ def flipped(place: Place, store: Store, bit: Bit, before: Sequence[Sequence[str]
 
 
 def while_open(place: Place, store: Store, chance: random.Random, lines: Sequence[str],
-               wanted: Sequence[str]) -> int:
+               wanted: Sequence[list[str]]) -> int:
     """Rows are asked for while bits of a segment are turned over: how many were refused. A first
     reply is waited for, since the opening reads every record."""
     refused = 0
@@ -141,7 +134,7 @@ def while_open(place: Place, store: Store, chance: random.Random, lines: Sequenc
                 store.put(at, store.data[at])
             if said[-1].startswith("ERR 8 "):
                 refused += 1
-            elif "".join(f"{one}\n" for one in said) != reply:
+            elif said != reply:
                 raise Wrong(f"{line!r}: {said!r} in place of {reply!r}")
     return refused
 

@@ -38,12 +38,12 @@ def runs() -> list[Sequence[str]]:
 def begun(program: Path, hub: Path, names: Sequence[str]) -> subprocess.Popen[bytes]:
     script = BENCH / "trials" / "by_pytest.py"
     return subprocess.Popen(
-        [sys.executable, script, program, "--service", "--hub", hub, *names], stdout=subprocess.PIPE,
-        stdin=subprocess.DEVNULL, stderr=subprocess.STDOUT, start_new_session=True)
+        [sys.executable, script, program, "--service", "--hub", hub, *names],
+        stdin=subprocess.DEVNULL, stdout=subprocess.PIPE, stderr=subprocess.STDOUT,
+        start_new_session=True)
 
 
 def ended(run: subprocess.Popen[bytes]) -> Outcome:
-    """What came of a run of tests."""
     try:
         printed = run.communicate(timeout=SECONDS)[0]
     except subprocess.TimeoutExpired:
@@ -53,7 +53,6 @@ def ended(run: subprocess.Popen[bytes]) -> Outcome:
 
 
 def types() -> Outcome:
-    """Whether the types are right."""
     if shutil.which("mypy") is None:
         return Outcome(0, 0, 1, "mypy isn't installed: the types weren't checked")
     done = subprocess.run(["mypy", "--strict", "--python-executable", sys.executable, "-p",

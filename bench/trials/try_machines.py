@@ -36,9 +36,9 @@ from urllib.parse import urlencode
 
 from machines_releases import CODES, TOP, days_of, rows_of, wording_of, write
 import harness
-from harness import Wrong, children, parser_of, same, tell, until
+from harness import Threads, Wrong, children, parser_of, same, tell, until
 from proxy_harness import (
-    HAPROXY, LOOK_SECONDS, NGINX, OPENSSL, ROOT, SECONDS, Client, Clients, Process, Proxy,
+    HAPROXY, LOOK_SECONDS, NGINX, OPENSSL, ROOT, SECONDS, Client, Process, Proxy,
     gateway_words, hub_words, need, open_folder, ready, run, stop)
 from tests.compare_releases import Comparison, Differs
 from tests.fixtures import SCT, Json, version
@@ -153,6 +153,10 @@ class Machine:
                 self.begin(name)
             self.is_off = False
 
+    def start_after_kill(self) -> None:
+        self.start()
+        self.note(self.imports())
+
     def begin(self, name: str) -> None:
         words, log = [*self.within, *self.words()[name]], self.place / "log"
         if name != "copies":
@@ -209,8 +213,7 @@ class Machine:
 
 
 class Question(NamedTuple):
-    """What is asked: at a pin or without one, of the day of a release or of the latest, of a code
-    or of all below the top."""
+    """What is asked at a pin or none, of a release's day or the latest, of a code or all below."""
 
     pin: Optional[int]
     day: Optional[str]
@@ -323,11 +326,6 @@ class Site:
         self.writer.note(found)
         self.import_next()
 
-    def back(self, machine: Machine) -> None:
-        """Starts a machine that was killed."""
-        machine.start()
-        machine.note(machine.imports())
-
     def feed(self, readers: Sequence[Machine]) -> None:
         """Has the readers take a backup, one after the other."""
         name = "%d.store" % self.imports
@@ -371,19 +369,13 @@ class Site:
             return True
         return not any(one.has_had(pin or 0, since, until) for one in self.machines)
 
-    def is_late(self) -> bool:
-        """Whether there is no more time."""
-        return time.monotonic() > self.end_at
-
     def close(self) -> None:
         self.proxy.end()
         for machine in self.machines:
             machine.end()
 
 
-class Asking(Clients):
-    """Clients that ask, and what came of it."""
-
+class Asking(Threads):
     def __init__(self, site: Site) -> None:
         super().__init__(site.size.clients, self.ask_all)
         self.site, self.counts, self.asked, self.faults = site, Counter[str](), 0, list[str]()
@@ -441,7 +433,7 @@ class Asking(Clients):
 
     def wait_for(self, count: int) -> None:
         """Waits until so many are asked, or there is no more time."""
-        while self.asked < count and not self.faults and not self.site.is_late():
+        while self.asked < count and not self.faults and time.monotonic() < self.site.end_at:
             time.sleep(LOOK_SECONDS)
         if self.faults:
             raise Wrong("; ".join(self.faults[:TOLD]))
@@ -459,7 +451,7 @@ def disturb(site: Site) -> None:
     elif turn == KILL_READER:
         site.near.kill()
     elif turn == START_READER:
-        site.back(site.near)
+        site.near.start_after_kill()
     if site.imports % FED_EVERY == 0:
         site.feed([site.near] if turn in BEHIND else [site.near, site.far])
 
@@ -492,7 +484,7 @@ def tried(site: Site) -> None:
     site.feed([site.near, site.far])
     began = time.monotonic()
     with Asking(site) as asking:
-        while site.imports < size.imports and not site.is_late():
+        while site.imports < size.imports and time.monotonic() < site.end_at:
             asking.wait_for(size.requests * site.imports // size.imports)
             disturb(site)
         asking.wait_for(size.requests)
@@ -500,7 +492,7 @@ def tried(site: Site) -> None:
     if asking.faults:
         raise Wrong("; ".join(asking.faults[:TOLD]))
     if site.near.is_off:
-        site.back(site.near)
+        site.near.start_after_kill()
     site.feed([site.near, site.far])
     digests = {one.asked("DIGEST") for one in site.machines}
     same("how many digests the machines have", len(digests), 1)
@@ -511,17 +503,7 @@ def tried(site: Site) -> None:
         same("whether some were " + what, counts[what] > 0, True)
 
 
-def run_trial(options: argparse.Namespace) -> None:
-    """The trial, in networks that nobody else has or without."""
-    with open_folder() as place, closing(Site(place, options)) as site:
-        site.start()
-        tried(site)
-        refused_copies(site)
-        print("copies that aren't taken: as it has to be", flush=True)
-
-
 def has_networks() -> bool:
-    """Whether networks can be made here."""
     if any(shutil.which(tool) is None for tool in NETWORK_TOOLS):
         return False
     return subprocess.run([*UNSHARED, "true"], capture_output=True, check=False).returncode == 0
@@ -535,7 +517,11 @@ def begin(options: argparse.Namespace) -> None:
             # (With this process all that it starts is ended, too.)
             os.execvp(UNSHARED[0], [*UNSHARED, sys.executable, *sys.argv, INSIDE])
         print("the machines are processes, without networks of their own", flush=True)
-    run_trial(options)
+    with open_folder() as place, closing(Site(place, options)) as site:
+        site.start()
+        tried(site)
+        refused_copies(site)
+        print("copies that aren't taken: as it has to be", flush=True)
 
 
 def main() -> int:

@@ -65,7 +65,6 @@ class Page:
                 raise Wrong("%s: no %r" % (what, part))
 
     def walk(self, what: str) -> None:
-        """Goes through the page by the keyboard."""
         for one in page_rules.walked(self.browser):
             raise Wrong("%s: %s" % (what, one))
 

@@ -22,9 +22,9 @@ from contextlib import closing
 from pathlib import Path
 from typing import Optional
 
-from harness import Hub, NotRun, Place, parser_of, same, tell
+from harness import Hub, NotRun, Place, Threads, parser_of, same, tell
 from proxy_harness import (
-    HOST, KINDS, LANGUAGE, OPENSSL, ROOT, SECONDS, USER, Authority, Client, Clients, Kind, Process,
+    HOST, KINDS, LANGUAGE, OPENSSL, ROOT, SECONDS, USER, Authority, Client, Kind, Process,
     Proxy, free_ports, gateway_words, need, open_folder, ready, stop)
 
 HUBS, GATEWAYS = 2, 3
@@ -131,9 +131,8 @@ def long_requests(site: Site) -> None:
     same("a long batch", (status, answer.count(b'"status":"200')), (200, ENTRIES))
 
 
-class Asking(Clients):
-    """Clients that ask one after the other for some path until they are told to end, and keep what
-    isn't as the first answer was."""
+class Asking(Threads):
+    """Clients that ask for a path until they are told to end, and keep what isn't as at first."""
 
     def __init__(self, site: Site, path: str = LOOKUP, may_be_cut: bool = False) -> None:
         super().__init__(CLIENTS, self.ask)
@@ -223,22 +222,19 @@ TRIALS: Sequence[Callable[[Site], Optional[str]]] = (
     who_may_ask, long_requests, restarts, readings, lacking_a_pin, without_a_hub)
 
 
-def tried(program: str, kind: Kind, restarts: int) -> None:
-    with open_folder() as place, closing(Site(program, place, kind, restarts)) as site:
-        site.start()
-        for trial in TRIALS:
-            said = trial(site) or "as it has to be"
-            print("%s: %s: %s" % (kind.name, trial.__name__, said), flush=True)
-
-
-def tried_by_all(program: str, restarts: int) -> None:
+def tried(program: str, restarts: int) -> None:
     need(OPENSSL)
-    absent = [kind.name for kind in KINDS if shutil.which(kind.name) is None]
+    absent = [kind for kind in KINDS if shutil.which(kind.name) is None]
     for kind in KINDS:
-        if kind.name not in absent:
-            tried(program, kind, restarts)
+        if kind in absent:
+            continue
+        with open_folder() as place, closing(Site(program, place, kind, restarts)) as site:
+            site.start()
+            for trial in TRIALS:
+                said = trial(site) or "as it has to be"
+                print("%s: %s: %s" % (kind.name, trial.__name__, said), flush=True)
     if absent:
-        raise NotRun("there is no " + " and no ".join(absent))
+        raise NotRun("there is no " + " and no ".join(kind.name for kind in absent))
 
 
 def main() -> int:
@@ -246,7 +242,7 @@ def main() -> int:
     parser.add_argument("--long", dest="restarts", action="store_const", const=LONG_RESTARTS,
                         default=RESTARTS, help="more restarts")
     asked = parser.parse_args()
-    return tell(lambda: tried_by_all(str(asked.program), asked.restarts))
+    return tell(lambda: tried(str(asked.program), asked.restarts))
 
 
 if __name__ == "__main__":
