@@ -83,11 +83,17 @@ def stores_in(program: Program, folder: Path) -> dict[Optional[str], Files]:
     return made
 
 
-def certain_faults(faults: str) -> list[str]:
-    """The lines of faults, without those that say that there was no memory to find out more: of a
-    folder that couldn't be listed, or of dates that couldn't be compared."""
+def is_unlisted(line: str) -> bool:
+    """Whether a line of faults says that there was no memory to list a folder."""
+    return line.startswith(PASSED_OVER) and line.endswith((" ", "/"))
+
+
+def certain_faults(faults: str, all_told: str) -> list[str]:
+    """The lines of faults that don't depend on what there was no memory for where this was told:
+    the files of a folder that are passed over, and dates that are compared."""
+    is_listed = not any(is_unlisted(line) for line in all_told.split("\n"))
     return [line for line in faults.split("\n")[:-1] if line != UNCOMPARED
-            and not (line.startswith(PASSED_OVER) and line.endswith((" ", "/")))]
+            and (is_listed or not line.startswith(PASSED_OVER))]
 
 
 class Trial:
@@ -127,7 +133,7 @@ class Trial:
         return was_refused
 
     def check_done(self, ran: Ran, left: Files) -> None:
-        if certain_faults(ran.faults) != certain_faults(self.whole.faults):
+        if certain_faults(ran.faults, ran.faults) != certain_faults(self.whole.faults, ran.faults):
             raise Wrong("done, but %s" % told(ran))
         if left != self.after:
             raise Wrong("done, and other files afterwards")
@@ -135,12 +141,12 @@ class Trial:
     def check_refused(self, ran: Ran, left: Files, folder: Path) -> None:
         """Looks if it is refused as it has to be, and what it leaves."""
         first, last = ran.faults[:-1].rpartition("\n")[::2]
-        begun = certain_faults(first + "\n") if first else []
+        begun = certain_faults(first + "\n", ran.faults) if first else []
         way = (ran.output, last + "\n")
         is_task = self.whole.status == 0 and "--help" not in self.words
         ways = ways_to_be_refused(STORE, COPY) if is_task else [("", OUT_OF_MEMORY)]
         # (What it had told by then it tells with all memory, too.)
-        is_usual = begun == certain_faults(self.whole.faults)[: len(begun)]
+        is_usual = begun == certain_faults(self.whole.faults, ran.faults)[: len(begun)]
         if ran.status != 1 or way not in ways or not is_usual:
             raise Wrong(told(ran))
         if left != self.before and not self.may_leave(way, begun, left, folder):
