@@ -3,5 +3,4 @@ mod Merged
 pub mod OnlyRead
 pub mod Told
 pub mod Digested
-
 mod Comparing

@@ -18,9 +18,10 @@ use Rattle.command_line.specs.OnlyRead.{IsOnlyRead}
 risen_after : (a b c : ℕ) → a ≤ b → HasRisen b c → HasRisen a c
 risen_after a b c first second =
     let greatest = 2 ^ 64 - 1 in
-    let next = le_trans (min-le_left (a + 1) greatest) (add-le-add first (le_refl 1)) in
-    (le_trans first second.0,
-    le_trans (le-min next (min-le_right (a + 1) greatest)) second.1)
+    let next = le_trans (min-le_left (a + 1) greatest) (add-le-add first (le_refl 1)) in (
+      le_trans first second.0,
+      le_trans (le-min next (min-le_right (a + 1) greatest)) second.1,
+    )
 
 module _ {D : Type 0} (view : D → DiskView) where
   not_read : (disk : D) → IsOnlyRead view disk disk

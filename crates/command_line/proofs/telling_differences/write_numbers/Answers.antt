@@ -14,5 +14,5 @@ returns g c =
     let found = c.args.found.now in
     let numbers = ended (decimal found.missing.count) (decimal found.more.count) (decimal found.different.count) in
     let line : c.as_bytes.result.now ≡ differs_line found =
-        c.as_bytes.ensures.value ∙ c.in-Ok.ensures.ok ∙ sym (ap (λ xs. 69 ∷ 82 ∷ 82 ∷ 32 ∷ 52 ∷ 54 ∷ 32 ∷ 68 ∷ 105 ∷ 102 ∷ 102 ∷ 101 ∷ 114 ∷ 115 ∷ 32 ∷ xs) numbers) in
+    c.as_bytes.ensures.value ∙ c.in-Ok.ensures.ok ∙ sym (ap (λ xs. 69 ∷ 82 ∷ 82 ∷ 32 ∷ 52 ∷ 54 ∷ 32 ∷ 68 ∷ 105 ∷ 102 ∷ 102 ∷ 101 ∷ 114 ∷ 115 ∷ 32 ∷ xs) numbers) in
     inl (subst (λ bytes. IsWritten Differs bytes c.write_line.result (g.O.Write.contents c.args.output.now) (g.O.Write.contents c.write_line.new.output)) line c.write_line.ensures)
