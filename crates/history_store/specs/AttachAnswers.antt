@@ -26,7 +26,7 @@ use Rattle.history_store.specs.declared.refusal.Refusal.TheVariants as refusals
 use Rattle.history_store.specs.Attached.{Attached, AttachingStore, ArePrepared, AreDiffering}
 use Rattle.history_store.specs.Attached.{AreFirst, HasNoRoom, HasPrepared, IsBusy, IsRoomFor}
 use Rattle.history_store.specs.Attached.{MayBeDiffering, bytes_for}
-use Rattle.history_store.specs.Answers.{IsImportOf, IsRefused, IsRefusedFor, IsStill}
+use Rattle.history_store.specs.Answers.{AnyRow, IsImportOf, IsRefused, IsRefusedFor, IsStill}
 use Rattle.history_store.specs.Catalog.{Catalog, HasNoEntry, next_catalog}
 use Rattle.history_store.specs.Checking.{HasFailed}
 use Rattle.history_store.specs.Contradicting.{IsBroughtBy}
@@ -65,8 +65,8 @@ IsOnlyReadOf view old new = OnlyReads Unsaid Unsaid (view old) (view new)
 
 -- ---- attaching
 
--- An import of so many rows is attached, of which none is taken: all rows of the store that the disk
--- has, if that is a prepared one. The first extent with room for all of them is reserved.
+-- An import of so many rows is attached, of which none is taken: all rows of the store that the
+-- disk has, if that is a prepared one. The first extent with room for all of them is reserved.
 pub record IsAttached {D : Type 0} (view : D → DiskView) (prepared : D)
     (old new : AttachingStore D) (left : ℕ) : Type 0 where
   pub idle : IsBusy old → ⊥
@@ -77,6 +77,7 @@ pub record IsAttached {D : Type 0} (view : D → DiskView) (prepared : D)
   pub none_taken : attached.taken ≡ []
   pub none_differs : attached.differing ≡ []
   pub left_is : left ≡ attached.rows_left
+  pub steps : attached.rows_left ≤ attached.left
   pub of_prepared : (rows : List RowValue) → HasPrepared view prepared rows
       → (left ≡ length rows)
       × IsRoomFor (bytes_for rows) old.store.catalog.entries attached.reserved
@@ -109,8 +110,8 @@ IsAttachingOf view prepared (Err e) old new =
 
 -- ---- steps
 
--- Up to `n` more rows are taken, and so much less is left to do. Each is compared with the store: on
--- an honest disk exactly those that differ are found. They are the next of the prepared store.
+-- Up to `n` more rows are taken, and so much less is left to do. Each is compared with the store:
+-- on an honest disk exactly those that differ are found. They are the next of the prepared store.
 pub record IsTakenOn {D : Type 0} (view : D → DiskView) (honest : Type 0)
     (may_be : RowValue → Type 0) (n : ℕ) (h : History) (old new : Attached D) : Type 0 where
   pub more : List RowValue
@@ -197,8 +198,8 @@ IsNotPublishedOf (Some a) s (Refused refusals.MergeUnfinished) = 1 ≤ a.left
 IsNotPublishedOf (Some a) s (Refused refusals.CountSpent) =
     (a.left ≡ 0) × (IsNotSpent s.history.imports s.catalog.epoch → ⊥)
 IsNotPublishedOf (Some a) s (Differs key) = IsToPublish a s × DiffersFirst a.differing key
-IsNotPublishedOf (Some a) s (Refused refusals.TooManySegments) = IsToPublish a s × (a.differing ≡ [])
-    × HasNoEntry (new_rows s.history a.taken) s.catalog
+IsNotPublishedOf (Some a) s (Refused refusals.TooManySegments) =
+    IsToPublish a s × (a.differing ≡ []) × HasNoEntry (new_rows s.history a.taken) s.catalog
 IsNotPublishedOf (Some a) s (Refused refusals.OutOfMemory) = IsToPublish a s × (a.differing ≡ [])
 IsNotPublishedOf (Some a) s (Refused refusals.DiskFault) = IsToPublish a s × (a.differing ≡ [])
 IsNotPublishedOf (Some a) s _ = ⊥
@@ -241,8 +242,8 @@ abbrev pub rows_behind : Option Key → List RowValue → List RowValue
 rows_behind None rows = rows
 rows_behind (Some key) rows = filter (λ row. is_lt (key_cmp key (key_of row))) rows
 
--- The first rows behind a key, up to a limit, that were found to differ, each with the number of the
--- import that brought the stored row with its key.
+-- The first rows behind a key, up to a limit, that were found to differ, each with the number of
+-- the import that brought the stored row with its key.
 abbrev pub AreListed : {D : Type 0} → Attached D → List StampedRow → Option Key → (limit : ℕ)
     → List (ℕ × RowValue) → Type 0
 AreListed a stored after limit found =
@@ -256,8 +257,8 @@ AreListed a stored after limit found =
 pub data AreSteps {D : Type 0} (view : D → DiskView) : AttachingStore D → AttachingStore D
     → Type 0 where
   NoStep : (s : AttachingStore D) → AreSteps view s s
-  Step : (s mid last : AttachingStore D) (may_be : RowValue → Type 0) (n : ℕ)
-      (result : Result ℕ AttachRefusal) → IsTakingOf view may_be result s mid n
+  Step : (s mid last : AttachingStore D) (n : ℕ)
+      (result : Result ℕ AttachRefusal) → IsTakingOf view AnyRow result s mid n
       → AreSteps view mid last → AreSteps view s last
   Between : (s mid last : AttachingStore D) → mid.attached ≡ s.attached
       → ((view s.store.disk).is_honest → (view mid.store.disk).is_honest)

@@ -90,8 +90,8 @@ pub record AreDiffering (h : History) (taken differing : List RowValue) : Type 0
   pub ascending : IsAscending row_cmp differing
   pub each : (row : RowValue) → Has differing row ↔ (Has taken row × (Accepts h (row ∷ []) → ⊥))
 
--- The same as far as it can be said on every disk: each row that is listed was taken and has the key
--- of a stored row, and each other one has a new key, or may be the stored row.
+-- The same as far as it can be said on every disk: each row that is listed was taken and has the
+-- key of a stored row, and each other one has a new key, or may be the stored row.
 pub record MayBeDiffering (known : List RowValue) (may_be : RowValue → Type 0)
     (taken differing : List RowValue) : Type 0 where
   pub ascending : IsAscending row_cmp differing
