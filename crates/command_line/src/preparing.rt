@@ -1,10 +1,10 @@
 //! Prepares a store of one release, which another store can take in.
 
-ghost use Rattle.std.specs.Prelude.{◌≡◌, IfOk, Ok};
+ghost use Rattle.std.specs.Prelude.{◌≡◌, IfOk, Ok, None, string_bytes};
 ghost use Rattle.disk_model.specs.Disk.{raised_by};
 ghost use Rattle.line_server.specs.ReplyValue.{bytes_of, reply_value};
 ghost use Rattle.line_server.specs.Sources.{source_view};
-ghost use Rattle.command_line.specs.Endings.{IsTold, report};
+ghost use Rattle.command_line.specs.Endings.{report};
 ghost use Rattle.command_line.specs.Hosts.{source_in};
 ghost use Rattle.command_line.specs.Preparing.{IsBrought, IsFilled, IsPreparedOn, prepared_told};
 ghost use Rattle.command_line.specs.Private.Preparing.{IsLineFor, IsLineWritten};
@@ -55,7 +55,7 @@ fn bring<D: Disk, S: Source>(
 /// one.
 fn line_of(alloc: Global, receipt: Receipt) -> Result<String, AllocError>
     ensures { IfOk result
-        (λ line. line ≡ bytes_of (reply_value (prepared_told (Ok receipt)))) }
+        (λ line. string_bytes line ≡ bytes_of (reply_value (prepared_told (Ok receipt)))) }
 {
     let Receipt { new, repeated, .. } = receipt;
     format!(in alloc; "OK {new} {repeated}\n")
@@ -100,8 +100,8 @@ fn fill<H: Host, O: Write, E: Write>(
     output: &mut O,
     faults: &mut E,
 ) -> (Result<Ending, ServeFault>, Option<H::Disk>)
-    ensures { IsFilled (H.view host.now) (source_in (H.view host.now) wanted.releases.now)
-        H.Disk.view wanted.name.now store result.1
+    ensures { IsFilled (H.view host.now) (source_in (H.view host.now) wanted.entry.releases.now)
+        H.Disk.view wanted.entry.name.now store result.1
         (report result.0 (O.contents output.old) (O.contents output.new)) }
 {
     let mut store = store;
@@ -125,8 +125,8 @@ fn prepare_on<H: Host, O: Write, E: Write>(
     output: &mut O,
     faults: &mut E,
 ) -> (Result<Ending, ServeFault>, Option<H::Disk>)
-    ensures { IsPreparedOn (H.view host.now) (source_in (H.view host.now) wanted.releases.now)
-        H.Disk.view wanted.name.now disk result.1
+    ensures { IsPreparedOn (H.view host.now) (source_in (H.view host.now) wanted.entry.releases.now)
+        H.Disk.view wanted.entry.name.now disk result.1
         (report result.0 (O.contents output.old) (O.contents output.new)) }
 {
     match Store::create(alloc, disk, Layout::Three, Words::LeftOut) {
@@ -150,7 +150,7 @@ pub(crate) fn prepare<H: Host, O: Write, E: Write>(
     faults: &mut E,
 ) -> Performed<H::Disk>
     ensures prepared { IsPreparedAt (H.view host.now) H.Disk.view (H.count asked.old)
-        wanted.to.now wanted.releases.now wanted.name.now result.1
+        wanted.entry.to.now wanted.entry.releases.now wanted.entry.name.now result.1
         (report result.0 (O.contents output.old) (O.contents output.new)) }
     ensures no_copy { result.2 ≡ None }
     ensures asked { H.count asked.new ≡ raised_by (H.count asked.old) 1 }
