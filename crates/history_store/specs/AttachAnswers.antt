@@ -1,6 +1,6 @@
 -- The results of the calls of an attached import, and the store after them.
-use Rattle.std.specs.Prelude.{◌≡◌, ◌≢◌, ◌⊎◌, ℕ, ◌-◌, ◌≤◌, true, false, List, [], ◌∷◌, ◌++◌, length}
-use Rattle.std.specs.Prelude.{map, min, take, Option, Some, None, MatchOption, Result, Ok, Err}
+use Rattle.std.specs.Prelude.{◌≡◌, ◌≢◌, ◌⊎◌, ℕ, ◌-◌, ◌≤◌, false, List, [], ◌∷◌, ◌++◌, length}
+use Rattle.std.specs.Prelude.{map, min, take, Option, Some, None, Result, Ok, Err}
 use Rattle.std.specs.List.{filter, AllZip}
 use Rattle.std.specs.Ordering.{is_lt}
 use Rattle.fault_counts.specs.Counting.{HasRisen}
@@ -43,7 +43,7 @@ pub data AttachRefusal : Type 0 where
 
 -- Why a call can't go on with a prepared store: its disk has failed since, or there is none on it.
 -- On a disk that isn't honest nothing is said.
-abbrev pub IsUnfit : {D : Type 0} → (D → DiskView) → (before after : D) → Type 0
+abbrev pub IsUnfit : {P : Type 0} → (P → DiskView) → (before after : P) → Type 0
 IsUnfit view before after = (view before).is_honest
     → HasRisen (view before).failures (view after).failures
     ⊎ ((rows : List RowValue) → ArePrepared rows (view before).moments.state.now → ⊥)
@@ -60,20 +60,19 @@ LeavesStore (Refused e) old new = IsRefused e old new
 LeavesStore e old new = IsStill old new
 
 -- the disk of a prepared store was only read, and it goes on having what it had
-abbrev pub IsOnlyReadOf : {D : Type 0} → (D → DiskView) → (old new : D) → Type 0
+abbrev pub IsOnlyReadOf : {P : Type 0} → (P → DiskView) → (old new : P) → Type 0
 IsOnlyReadOf view old new = OnlyReads Unsaid Unsaid (view old) (view new)
 
 -- ---- attaching
 
 -- An import of so many rows is attached, of which none is taken: all rows of the store that the
 -- disk has, if that is a prepared one. The first extent with room for all of them is reserved.
-pub record IsAttached {D : Type 0} (view : D → DiskView) (prepared : D)
+pub record IsAttached {P D : Type 0} (view : P → DiskView) (prepared : P)
     (old new : AttachingStore D) (left : ℕ) : Type 0 where
   pub idle : IsBusy old → ⊥
   pub keeps_all : scope_of old.store.catalog ≡ scopes.Whole
-  pub attached : Attached D
+  pub attached : Attached
   pub is_attached : new.attached ≡ Some attached
-  pub disk : IsOnlyReadOf view prepared attached.disk
   pub none_taken : attached.taken ≡ []
   pub none_differs : attached.differing ≡ []
   pub left_is : left ≡ attached.rows_left
@@ -83,9 +82,9 @@ pub record IsAttached {D : Type 0} (view : D → DiskView) (prepared : D)
       × IsRoomFor (bytes_for rows) old.store.catalog.entries attached.reserved
   pub unchanged : new.store ≡ old.store
 
--- Why no import is attached. The refused disk is returned.
-abbrev pub IsNotAttached : {D : Type 0} → (D → DiskView) → (prepared back : D) → AttachingStore D
-    → AttachRefusal → Type 0
+-- why no import is attached
+abbrev pub IsNotAttached : {P D : Type 0} → (P → DiskView) → (prepared back : P)
+    → AttachingStore D → AttachRefusal → Type 0
 IsNotAttached view prepared back s (Refused refusals.MergeBusy) = IsBusy s
 IsNotAttached view prepared back s (Refused refusals.LaterVersion) =
     (IsBusy s → ⊥) × (scope_of s.store.catalog ≡ scopes.Basic)
@@ -100,20 +99,25 @@ IsNotAttached view prepared back s (Refused refusals.Full) =
 IsNotAttached view prepared back s _ = ⊥
 
 -- the result of attaching an import, and the store after it
-abbrev pub IsAttachingOf : {D : Type 0} → (D → DiskView) → (prepared : D)
-    → Result ℕ (AttachRefusal × D) → AttachingStore D → AttachingStore D → Type 0
-IsAttachingOf view prepared (Ok left) old new = IsAttached view prepared old new left
+abbrev pub IsAttachingBy : {P D : Type 0} → (P → DiskView) → (prepared back : P)
+    → Result ℕ AttachRefusal → AttachingStore D → AttachingStore D → Type 0
+IsAttachingBy view prepared back (Ok left) old new = IsAttached view prepared old new left
     × (old.store.needs_reopen ≡ false)
-IsAttachingOf view prepared (Err e) old new =
-    IsRefusedSo (IsNotAttached view prepared e.1 old) e.0 old.store × (new ≡ old)
-    × IsOnlyReadOf view prepared e.1
+IsAttachingBy view prepared back (Err e) old new =
+    IsRefusedSo (IsNotAttached view prepared back old) e old.store × (new ≡ old)
+
+-- an import was attached, or not, and the prepared disk was only read
+abbrev pub IsAttachingOf : {P D : Type 0} → (P → DiskView) → (prepared back : P)
+    → Result ℕ AttachRefusal → AttachingStore D → AttachingStore D → Type 0
+IsAttachingOf view prepared back result old new =
+    IsAttachingBy view prepared back result old new × IsOnlyReadOf view prepared back
 
 -- ---- steps
 
 -- Up to `n` more rows are taken, and so much less is left to do. Each is compared with the store:
 -- on an honest disk exactly those that differ are found. They are the next of the prepared store.
-pub record IsTakenOn {D : Type 0} (view : D → DiskView) (honest : Type 0)
-    (may_be : RowValue → Type 0) (n : ℕ) (h : History) (old new : Attached D) : Type 0 where
+pub record IsTakenOn {P : Type 0} (view : P → DiskView) (prepared : P) (honest : Type 0)
+    (may_be : RowValue → Type 0) (n : ℕ) (h : History) (old new : Attached) : Type 0 where
   pub more : List RowValue
   pub taken : new.taken ≡ old.taken ++ more
   pub count : length more ≡ min n old.rows_left
@@ -122,43 +126,45 @@ pub record IsTakenOn {D : Type 0} (view : D → DiskView) (honest : Type 0)
   pub differing : new.differing ≡ old.differing ++ found
   pub exact : honest → AreDiffering h more found
   pub compared : MayBeDiffering (full h) may_be more found
-  pub disk : IsOnlyReadOf view old.disk new.disk
-  pub prepared : (rows : List RowValue) → HasPrepared view old.disk rows
+  pub next : (rows : List RowValue) → HasPrepared view prepared rows
       → AreFirst old.taken old.rows_left rows → AreFirst new.taken new.rows_left rows
   pub rows_left : new.rows_left ≡ old.rows_left - n
   pub left : new.left ≡ old.left - n
   pub reserved : new.reserved ≡ old.reserved
 
--- the attached import is the same, but for what was read of its prepared store
-abbrev pub IsSameBut : {D : Type 0} → (D → DiskView) → Option (Attached D) → Option (Attached D)
-    → Type 0
-IsSameBut view None new = new ≡ None
-IsSameBut {D} view (Some attached) new = (disk : D) × IsOnlyReadOf view attached.disk disk
-    × (new ≡ Some (record attached { disk = disk }))
-
 -- Why a step isn't taken. Of the prepared store it is said on every disk only that there were rows
 -- left to take.
-abbrev pub IsNotTakenOn : {D : Type 0} → (D → DiskView) → ℕ → (back : Option (Attached D))
-    → Option (Attached D) → AttachRefusal → Type 0
-IsNotTakenOn view n back None e = e ≡ Refused refusals.NoMerge
-IsNotTakenOn view n back (Some a) (Refused refusals.OutOfMemory) = (1 ≤ n) × (1 ≤ a.left)
-IsNotTakenOn view n back (Some a) (Refused refusals.DiskFault) = (1 ≤ n) × (1 ≤ a.rows_left)
-IsNotTakenOn view n back (Some a) (Refused refusals.Damaged) = (1 ≤ n) × (1 ≤ a.rows_left)
-IsNotTakenOn view n back (Some a) NotPrepared = (1 ≤ n) × (1 ≤ a.rows_left)
-    × MatchOption back ⊥ (λ b. IsUnfit view a.disk b.disk)
-IsNotTakenOn view n back (Some a) _ = ⊥
+abbrev pub IsNotTakenOn : {P : Type 0} → (P → DiskView) → (prepared back : P) → ℕ
+    → Option Attached → AttachRefusal → Type 0
+IsNotTakenOn view prepared back n None e = e ≡ Refused refusals.NoMerge
+IsNotTakenOn view prepared back n (Some a) (Refused refusals.OutOfMemory) = (1 ≤ n) × (1 ≤ a.left)
+IsNotTakenOn view prepared back n (Some a) (Refused refusals.DiskFault) =
+    (1 ≤ n) × (1 ≤ a.rows_left)
+IsNotTakenOn view prepared back n (Some a) (Refused refusals.Damaged) =
+    (1 ≤ n) × (1 ≤ a.rows_left)
+IsNotTakenOn view prepared back n (Some a) NotPrepared =
+    (1 ≤ n) × (1 ≤ a.rows_left) × IsUnfit view prepared back
+IsNotTakenOn view prepared back n (Some a) _ = ⊥
 
--- The result of a step, and the store after it. A refused step takes no row, and may be repeated.
-abbrev pub IsTakingOf : {D : Type 0} → (D → DiskView) → (may_be : RowValue → Type 0)
-    → Result ℕ AttachRefusal → AttachingStore D → AttachingStore D → ℕ → Type 0
-IsTakingOf {D} view may_be (Ok left) old new n =
-    (before : Attached D) × (after : Attached D) × (old.attached ≡ Some before)
-    × (new.attached ≡ Some after) × IsTakenOn view
-    (view old.store.disk).is_honest may_be n old.store.history before after
+-- the result of a step, and the store after it; a refused step takes no row, and may be repeated
+abbrev pub IsTakingBy : {P D : Type 0} → (D → DiskView) → (P → DiskView) → (prepared back : P)
+    → (may_be : RowValue → Type 0) → Result ℕ AttachRefusal → AttachingStore D → AttachingStore D
+    → ℕ → Type 0
+IsTakingBy own view prepared back may_be (Ok left) old new n =
+    (before : Attached) × (after : Attached) × (old.attached ≡ Some before)
+    × (new.attached ≡ Some after)
+    × IsTakenOn view prepared (own old.store.disk).is_honest may_be n old.store.history before after
     × (left ≡ after.left) × (new.store.catalog ≡ old.store.catalog) × IsDone old.store new.store
-IsTakingOf view may_be (Err e) old new n =
-    IsRefusedSo (IsNotTakenOn view n new.attached old.attached) e old.store
-    × LeavesStore e old.store new.store × IsSameBut view old.attached new.attached
+IsTakingBy own view prepared back may_be (Err e) old new n =
+    IsRefusedSo (IsNotTakenOn view prepared back n old.attached) e old.store
+    × LeavesStore e old.store new.store × (new.attached ≡ old.attached)
+
+-- a step was taken, or not, and the prepared disk was only read
+abbrev pub IsTakingOf : {P D : Type 0} → (D → DiskView) → (P → DiskView) → (prepared back : P)
+    → (may_be : RowValue → Type 0) → Result ℕ AttachRefusal → AttachingStore D → AttachingStore D
+    → ℕ → Type 0
+IsTakingOf own view prepared back may_be result old new n =
+    IsTakingBy own view prepared back may_be result old new n × IsOnlyReadOf view prepared back
 
 -- ---- publishing
 
@@ -172,7 +178,7 @@ IsCatalogWith reserved (s ∷ rows) catalog next = (extent : Extent) × (reserve
     })
 
 -- The rows that were taken are all, none differs, and they are what an import brings.
-pub record IsPublishedAs {D : Type 0} (a : Attached D) (old new : StoreValue D)
+pub record IsPublishedAs {D : Type 0} (a : Attached) (old new : StoreValue D)
     (receipt : Receipt) : Type 0 where
   pub none_left : a.left ≡ 0
   pub not_spent : IsNotSpent old.history.imports old.catalog.epoch
@@ -187,11 +193,11 @@ DiffersFirst differing key = (row : RowValue) × (rest : List RowValue)
     × (differing ≡ row ∷ rest) × (key_of row ≡ key)
 
 -- all is done, and the counts aren't spent
-abbrev pub IsToPublish : {D : Type 0} → Attached D → StoreValue D → Type 0
+abbrev pub IsToPublish : {D : Type 0} → Attached → StoreValue D → Type 0
 IsToPublish a s = (a.left ≡ 0) × IsNotSpent s.history.imports s.catalog.epoch
 
 -- why an attached import isn't published
-abbrev pub IsNotPublishedOf : {D : Type 0} → Option (Attached D) → StoreValue D → AttachRefusal
+abbrev pub IsNotPublishedOf : {D : Type 0} → Option Attached → StoreValue D → AttachRefusal
     → Type 0
 IsNotPublishedOf None s e = e ≡ Refused refusals.NoMerge
 IsNotPublishedOf (Some a) s (Refused refusals.MergeUnfinished) = 1 ≤ a.left
@@ -205,7 +211,7 @@ IsNotPublishedOf (Some a) s (Refused refusals.DiskFault) = IsToPublish a s × (a
 IsNotPublishedOf (Some a) s _ = ⊥
 
 -- an import that can't be published, however often it is tried, isn't attached any longer
-abbrev pub attached_after : {D : Type 0} → AttachRefusal → Option (Attached D) → Option (Attached D)
+abbrev pub attached_after : AttachRefusal → Option Attached → Option Attached
 attached_after (Differs key) attached = None
 attached_after (Refused refusals.TooManySegments) attached = None
 attached_after e attached = attached
@@ -213,7 +219,7 @@ attached_after e attached = attached
 -- the result of publishing an attached import, and the store after it, on an honest disk
 abbrev pub IsAttachedPublishingOf : {D : Type 0} → Result Receipt AttachRefusal
     → AttachingStore D → AttachingStore D → Type 0
-IsAttachedPublishingOf {D} (Ok receipt) old new = (a : Attached D) × (old.attached ≡ Some a)
+IsAttachedPublishingOf (Ok receipt) old new = (a : Attached) × (old.attached ≡ Some a)
     × IsPublishedAs a old.store new.store receipt × (new.attached ≡ None)
     × (old.store.needs_reopen ≡ false) × (new.store.needs_reopen ≡ false)
 IsAttachedPublishingOf (Err e) old new =
@@ -231,7 +237,7 @@ IsBeforeOrWith layout h rows c = RepresentsAs layout h c
 -- the result of abandoning an attached import, and the store after it
 abbrev pub IsDropping : {D : Type 0} → Result (Unit {0}) AttachRefusal
     → AttachingStore D → AttachingStore D → Type 0
-IsDropping {D} (Ok done) old new = ((a : Attached D) × (old.attached ≡ Some a))
+IsDropping (Ok done) old new = ((a : Attached) × (old.attached ≡ Some a))
     × (new.attached ≡ None) × (new.store ≡ old.store) × (old.store.needs_reopen ≡ false)
 IsDropping (Err e) old new =
     IsRefusedSo (λ e. (e ≡ Refused refusals.NoMerge) × (old.attached ≡ None)) e old.store
@@ -244,7 +250,7 @@ rows_behind (Some key) rows = filter (λ row. is_lt (key_cmp key (key_of row))) 
 
 -- The first rows behind a key, up to a limit, that were found to differ, each with the number of
 -- the import that brought the stored row with its key.
-abbrev pub AreListed : {D : Type 0} → Attached D → List StampedRow → Option Key → (limit : ℕ)
+abbrev pub AreListed : Attached → List StampedRow → Option Key → (limit : ℕ)
     → List (ℕ × RowValue) → Type 0
 AreListed a stored after limit found =
     (map (λ f. f.1) found ≡ take limit (rows_behind after a.differing))
@@ -253,17 +259,19 @@ AreListed a stored after limit found =
 
 -- ---- an import by another way
 
--- steps, and any calls between them that change neither history nor catalog
-pub data AreSteps {D : Type 0} (view : D → DiskView) : AttachingStore D → AttachingStore D
-    → Type 0 where
-  NoStep : (s : AttachingStore D) → AreSteps view s s
-  Step : (s mid last : AttachingStore D) (n : ℕ)
-      (result : Result ℕ AttachRefusal) → IsTakingOf view AnyRow result s mid n
-      → AreSteps view mid last → AreSteps view s last
+-- steps from the disk of a prepared store with these rows, and any calls between them that change
+-- neither history nor catalog
+pub data AreSteps {P D : Type 0} (own : D → DiskView) (view : P → DiskView) (rows : List RowValue)
+    : AttachingStore D → AttachingStore D → Type 0 where
+  NoStep : (s : AttachingStore D) → AreSteps own view rows s s
+  Step : (s mid last : AttachingStore D) (prepared back : P) (n : ℕ)
+      (result : Result ℕ AttachRefusal) → HasPrepared view prepared rows
+      → IsTakingOf own view prepared back AnyRow result s mid n
+      → AreSteps own view rows mid last → AreSteps own view rows s last
   Between : (s mid last : AttachingStore D) → mid.attached ≡ s.attached
-      → ((view s.store.disk).is_honest → (view mid.store.disk).is_honest)
+      → ((own s.store.disk).is_honest → (own mid.store.disk).is_honest)
       → mid.store.history ≡ s.store.history → mid.store.catalog ≡ s.store.catalog
-      → AreSteps view mid last → AreSteps view s last
+      → AreSteps own view rows mid last → AreSteps own view rows s last
 
 -- the answers are the same; a contradiction is told by its key, and not by its file and line
 abbrev pub AnswersAlike : Result Receipt AttachRefusal → Result Receipt Refusal → Type 0
@@ -281,12 +289,12 @@ HaveWorked result other = HasFailed other → ⊥
 -- A prepared store that was attached, taken in any steps and published has the answer and the
 -- history of an import of a release with its rows into the store as it was when it was attached,
 -- unless memory runs out or a disk fails.
-abbrev pub AttachedIsImported : (D : Type 0) → (D → DiskView) → Type 0
-AttachedIsImported D view = (old begun ready new : AttachingStore D) (imported : StoreValue D)
-    (prepared : D) (rows : List RowValue) (release : Release) (left : ℕ)
-    (result : Result Receipt AttachRefusal) (other : Result Receipt Refusal)
-    → (view old.store.disk).is_honest → HasPrepared view prepared rows → IsReleaseOf release rows
-    → IsAttachingOf view prepared (Ok left) old begun → AreSteps view begun ready
+abbrev pub AttachedIsImported : (P D : Type 0) → (P → DiskView) → (D → DiskView) → Type 0
+AttachedIsImported P D view own = (old begun ready new : AttachingStore D)
+    (imported : StoreValue D) (prepared back : P) (rows : List RowValue) (release : Release)
+    (left : ℕ) (result : Result Receipt AttachRefusal) (other : Result Receipt Refusal)
+    → (own old.store.disk).is_honest → HasPrepared view prepared rows → IsReleaseOf release rows
+    → IsAttachingOf view prepared back (Ok left) old begun → AreSteps own view rows begun ready
     → ready.store.needs_reopen ≡ false → IsAttachedPublishingOf result ready new
     → result ≢ Err (Refused refusals.MergeUnfinished) → IsImportOf other old.store imported release
     → HaveWorked result other → AnswersAlike result other × (new.store.history ≡ imported.history)

@@ -47,12 +47,11 @@ bytes_for rows = length (segment_of (stamped 1 rows))
 
 -- ---- the attached import
 
--- An import that is attached: the disk of its prepared store; the extent that is reserved for its
--- new rows, if it has rows; the rows that were taken, in key order; those of them that contradict a
--- stored row, as was read; how many rows are left to take; and what is left to do before it can be
--- published: rows to take, and postings to join, which are counted in rows.
-pub record Attached (D : Type 0) : Type 0 where
-  pub disk : D
+-- An import that is attached: the extent that is reserved for its new rows, if it has rows; the
+-- rows that were taken, in key order; those of them that contradict a stored row, as was read; how
+-- many rows are left to take; and what is left to do before it can be published: rows to take, and
+-- postings to join, which are counted in rows. The prepared store's disk is lent for each step.
+pub record Attached : Type 0 where
   pub reserved : Option Extent
   pub taken : List RowValue
   pub differing : List RowValue
@@ -62,7 +61,7 @@ pub record Attached (D : Type 0) : Type 0 where
 -- a store, and the import that is attached to it, if there is one
 pub record AttachingStore (D : Type 0) : Type 0 where
   pub store : StoreValue D
-  pub attached : Option (Attached D)
+  pub attached : Option Attached
 
 -- a merge is in progress, or an import is attached
 abbrev pub IsBusy : {D : Type 0} → AttachingStore D → Type 0
@@ -103,10 +102,9 @@ pub record MayBeDiffering (known : List RowValue) (may_be : RowValue → Type 0)
 
 -- No merge is in progress, and no fewer steps are left than rows. As long as no call has failed on
 -- an honest disk, the rows that are listed as differing are those that do, and a read returns the
--- records of the new rows at the beginning of the reserved extent; a crash may still lose them. The
--- rows are the first of the prepared store's, if its disk is honest.
+-- records of the new rows at the beginning of the reserved extent; a crash may still lose them.
 pub record IsAttachedTo {D : Type 0} (view : D → DiskView) (s : StoreValue D)
-    (attached : Attached D) : Type 0 where
+    (attached : Attached) : Type 0 where
   pub no_merge : s.catalog.merge ≡ None
   pub keeps_all : s.catalog.layout ≡ layouts.Three
   pub rows_first : attached.rows_left ≤ attached.left
@@ -121,5 +119,3 @@ pub record IsAttachedTo {D : Type 0} (view : D → DiskView) (s : StoreValue D)
       (view s.disk).moments.state.now
   pub beside : (extent : Extent) → attached.reserved ≡ Some extent
       → IsAhead extent s.catalog.entries
-  pub prepared : (rows : List RowValue) → HasPrepared view attached.disk rows
-      → AreFirst attached.taken attached.rows_left rows
