@@ -22,7 +22,7 @@ pub returns : goal.returns
 returns g c =
     let view = g.H.Host.view c.new-source.result.host.now in
     let refused : IsBrought (source_view view.is_honest (view.releases c.new-source.result.dir.now)) g.H.Disk.Disk.view c.args.wanted.name.now (Err c.in-Err.field-0) c.args.store c.bring_and_say-line.new.store =
-        rw c.in-Err.is at c.bring_and_say-line.ensures in
+    rw c.in-Err.is at c.bring_and_say-line.ensures in
     record {
       result = Err c.in-Err.field-0;
       after = c.bring_and_say-line.new.store;
