@@ -44,6 +44,7 @@ TASKS = (
     Task("merge --store store --segments 1", THREE),
     Task("copy --store store --to copy", THREE),
     Task("copy --store store --to copy --imports 1", THREE),
+    Task("prepare --quiet --to store ../releases/r3"),
     Task("digest --store store", THREE),
     Task("copy --store store --to copy --layout 3", THREE),
     Task("serve --store store --releases ../releases", THREE,
@@ -159,7 +160,7 @@ class Trial:
         if self.task.command() == "copy":
             is_unopened = way == (DISK_FAULT, "sctd: copy: out of memory\n")
             return is_unopened and left == {**self.before, COPY: b""}
-        if self.task.command() == "init":
+        if self.task.command() in ("init", "prepare"):
             return left == {STORE: b""} and self.is_done_again(folder) == self.after[STORE]
         return self.task.command() == "merge" and bool(begun) and self.has_merged(folder)
 

@@ -26,6 +26,7 @@ mod outline;
 mod package_day;
 mod package_rows;
 mod paths;
+mod preparing;
 mod progress;
 mod running;
 mod serving;
