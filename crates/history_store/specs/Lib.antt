@@ -14,8 +14,6 @@ pub mod Contradicting
 pub mod Written
 pub mod Meters
 pub mod MergeAnswers
-pub mod Attached
-pub mod AttachAnswers
 pub mod Refusals
 pub mod Laws
 pub mod Private
