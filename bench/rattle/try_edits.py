@@ -42,7 +42,7 @@ from typing import Any
 import edits as editing
 import grounds
 from check_edits import faults_of_edits
-from edits import EDITS, MUST_FAIL, Change, Edit, Line, Misfit, Record, texts_with
+from edits import EDITS, MUST_FAIL, SPECS, SRC, Change, Edit, Line, Misfit, Record, texts_with
 from source import TOP, functions_of, read
 
 # The statement that does nothing, and in how many functions it is tried before the edits.
@@ -244,8 +244,9 @@ class Report:
         return None
 
     def refuted(self, proofs: str) -> str | None:
-        """A goal of a function whose answer rests on a lemma that isn't true, and the lemma."""
+        """The goals of functions whose answers rest on a lemma that isn't true, each with it."""
         lemmas: dict[str, str] = {}
+        found: list[str] = []
         for line in self.lines:
             lemma, resting = OF_LEMMA.match(line), OF_RESTING.match(line)
             if lemma and not LOST.search(lemma[2]):
@@ -255,9 +256,10 @@ class Report:
                 names = resting[3].split(", ")
                 goals = goals_answered(proofs, function).intersection(names)
                 if function and goals:
-                    return f"{function}: {min(goals)}, by its lemma {lemmas[resting[2]]}"
-                lemmas.update(dict.fromkeys(names, lemmas[resting[2]]))
-        return None
+                    found.append(f"{function}: {min(goals)}, by its lemma {lemmas[resting[2]]}")
+                else:
+                    lemmas.update(dict.fromkeys(names, lemmas[resting[2]]))
+        return "; ".join(found) or None
 
     def first_fault(self) -> str:
         """The first line that tells a fault, or the last one."""
@@ -469,7 +471,7 @@ class Trial:
             return Verdict(edit, outcome, report.first_fault())
         own: list[str | None] = [*sorted(functions)] or [None]
         reason = self.reason(report, own)
-        if not reason and not functions and all(it.path.startswith("src/") for it in edit.changes):
+        if not reason and not functions and may_refute(edit):
             reason = report.refuted(os.path.join(self.folder, "proofs"))
         if reason:
             return Verdict(edit, Outcome.REFUSED, f"{reason} (whole check)")
@@ -479,6 +481,11 @@ class Trial:
         """Why one of these functions isn't proved, or where it is None any function."""
         proofs = os.path.join(self.folder, "proofs")
         return next(filter(None, (report.reason(it, proofs) for it in functions)), None)
+
+
+def may_refute(edit: Edit) -> bool:
+    """Whether an edit may make a lemma untrue: it changes sources or definitions, and no proof."""
+    return all(it.path.startswith((f"{SRC}/", f"{SPECS}/")) for it in edit.changes)
 
 
 def batches_of(edits: Batch, calls: Calls) -> list[Batch]:

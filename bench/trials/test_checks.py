@@ -1,7 +1,8 @@
-"""Releases that are checked, and Snapshots that are compared, through the hub: what is told beside
-the reply, and that no other line waits for it."""
+"""Releases that are checked, also before their imports, and Snapshots that are compared, through
+the hub: what is told beside the reply, and that no other line waits for it."""
 
 import re
+import time
 from collections.abc import Iterable, Sequence
 from pathlib import Path
 
@@ -18,6 +19,16 @@ if sys.argv[1] in ("import", "verify"):
         time.sleep(0.01)
 os.execv(PROGRAM, [PROGRAM, *sys.argv[1:]])
 """
+# Stands before it too: what its checks tell, are answered and end with instead.
+CHECKED = """
+import os, sys
+if sys.argv[1] == "import":
+    sys.stderr.write(%r)
+    sys.stdout.write(%r)
+    sys.exit(%d)
+os.execv(PROGRAM, [PROGRAM, *sys.argv[1:]])
+"""
+UNCOMPARED = "the release wasn't compared with the store's modules and dates"
 NUMBERS, CHANGED = range(1, 11), (3, 7)
 FILE = "sct2_Concept_Delta_"
 # A package whose Snapshot has all concepts of the store, and what that is answered.
@@ -27,6 +38,10 @@ WRONG_NAMES = (
     "", " next", "next ", "../releases/next", "next/.", "next/../next", "/next", "next/", "next//x",
     ".", "..", "next\\", "n\x1bext", "next\tx", "n\u00eaxt", "next\r\r", "n/" * 512 + "x")
 NAMES_OF_NOTHING = ("nothing", "next/Full", "...", "-", "--help", "n/" * 511 + "xy")
+# How soon a hub ends that waits for nothing, on a machine that has much else to do.
+SOON_SECONDS = 20
+# The score of what the system kills first.
+KILLED_FIRST = 1000
 # Checks and a comparison, each with its reply.
 SOUND = (("CHECK next", "OK 2 1 0"), ("CHECK package/Delta", "OK 2 1 0"),
          (f"VERIFY {SNAPSHOT}", WHOLE))
@@ -127,6 +142,40 @@ def test_differences_are_told(place: Place, store: Path, name: str, numbers: Seq
         assert hub.logged(is_alone=False) == [f"VERIFY {name}: {reply}"] * 2
 
 
+def test_so_many_differences(place: Place, store: Path) -> None:
+    """As many of each sort as the line says, and how many more there are."""
+    write_snapshot(place, "other", NUMBERS, CHANGED)
+    with Hub(place, store, releases=place.releases) as hub:
+        hub.owner.ask("NOTES")
+        for limit, count in (("", 2), (" 0", 1), (" 1", 2), (" 2", 2), (" 999999", 2)):
+            notes, reply = notes_of(hub.owner, f"VERIFY other{limit}")
+            assert (len(notes), reply) == (count, "ERR 46 Differs 0 0 2"), limit
+            assert notes[-1].startswith("sctd: and ") == (limit in (" 0", " 1")), limit
+        for line in ("VERIFY other 1000000", "VERIFY other -1", "VERIFY other 1 1", "VERIFY other ",
+                     "VERIFY  1", "CHECK next 1", "IMPORT next 1"):
+            assert notes_of(hub.owner, line) == ([], "ERR 43 Arguments"), line
+
+
+def test_hubs_that_only_read(place: Place, store: Path) -> None:
+    """They compare the store, each on a copy of its own at the same time, and change nothing."""
+    before = store.read_bytes()
+    waiting = [place.below(name).wrapped(WAITING) for name in ("one", "other")]
+    with (Hub(waiting[0], store, "--read-only", releases=place.releases) as one,
+          Hub(waiting[1], store, "--read-only", releases=place.releases) as other):
+        for hub, its in zip((one, other), waiting):
+            hub.owner.send(f"VERIFY {SNAPSHOT}\n".encode())
+            until("the Snapshot is compared", its.path("checking").exists)
+        for hub, its in zip((one, other), waiting):
+            its.path("check on").touch()
+            assert hub.owner.read() == [WHOLE]
+            assert hub.owner.ask("CHECK next") == ["OK 2 1 0"]
+            for line in ("IMPORT next", "MERGE", "TRIM"):
+                assert hub.owner.ask(line) == ["ERR 42 Command"]
+            assert hub.owner.ask(f"BACKUP {its.path('copy')}") == ["OK 1 10 1"]
+    assert store.read_bytes() == before
+    assert not list(store.parent.glob(store.name + ".checked*"))
+
+
 def test_a_whole_store(place: Place, store: Path, checked: Path) -> None:
     """It is compared as it is now, by a copy that doesn't stay, and isn't changed."""
     before = store.read_bytes()
@@ -154,7 +203,7 @@ def test_who_may_compare(place: Place, store: Path) -> None:
 def test_nobody_waits(place: Place, store: Path, checked: Path, line: str, wanted: str) -> None:
     """While a release is checked, others ask, import and check no other one."""
     waiting = place.wrapped(WAITING)
-    with Hub(waiting, store, releases=place.releases) as hub:
+    with Hub(waiting, store, "--import-unchecked", releases=place.releases) as hub:
         owner, other, third = (hub.client() for _ in range(3))
         owner.send(f"{line}\nSTATUS\n".encode())
         until("the release is checked", waiting.path("checking").exists)
@@ -183,6 +232,152 @@ def test_a_check_of_a_hub_that_ends(place: Place, store: Path, checked: Path, li
         assert owner.line() == b""
     assert not checked.exists()
     assert not any(Path(f"/proc/{number}").exists() for number in started)
+
+
+# ---- Checks before imports
+
+
+def test_contradictions_of_an_import(place: Place, store: Path) -> None:
+    """They are told as by a check, each once, and the program's own line isn't told beside them."""
+    with Hub(place, store, releases=place.releases) as hub:
+        client, other = hub.client(), hub.client()
+        client.ask("NOTES")
+        notes, reply = notes_of(client, "CHECK wrong")
+        assert (len(notes), reply) == (len(CHANGED), "ERR 32 Contradiction 1 4")
+        assert notes_of(client, "IMPORT wrong") == (notes, reply)
+        assert other.ask("IMPORT wrong") == [reply]
+        assert [hub.told().count(note) for note in notes] == [3, 3]
+        assert hub.told().count("sctd: ") == 3 * len(notes)
+        assert hub.logged(is_alone=False) == [
+            f"{word} wrong: {reply}" for word in ("CHECK", "IMPORT", "IMPORT")]
+
+
+@pytest.mark.parametrize("told, said, status, why", (
+    ("sctd: a\n", "OK 2 1 0\n", 0, ""), ("sctd: a\nsctd: a\n", "OK 2 1 0\n", 0, ""),
+    ("", "ERR 1 OutOfMemory\n", 1, "its check was answered ERR 1 OutOfMemory"),
+    ("sctd: a\n", "OK 2 2 0\n", 0, "its check was answered OK 2 2 0"),
+    ("sctd: a", "", 3, "its check ended without a reply")))
+def test_a_check_changes_no_import(place: Place, store: Path, told: str, said: str, status: int,
+                                   why: str) -> None:
+    """Whatever it says: what the program says is told behind it, and where the check can't have
+    been one of what was imported, that too."""
+    file, = (place.releases / "next").rglob(FILE + "*")
+    file.write_text(file.read_text("utf-8").rstrip("\r\n"), "utf-8")
+    cut_off = f"sctd: warning: {file.name}: its last line has no end; was the file cut off?"
+    lines = [*told.splitlines(), cut_off]
+    with Hub(place.wrapped(CHECKED % (told, said, status)), store, releases=place.releases) as hub:
+        hub.owner.ask("NOTES")
+        notes, reply = notes_of(hub.owner, "IMPORT next")
+        assert reply == "OK 2 1 0"
+        assert sorted(notes) == sorted([*lines, *([f"hub: {UNCOMPARED}: {why}"] if why else [])])
+        assert [line for line in hub.told().splitlines() if line.startswith("sctd: ")] == lines
+        assert hub.logged(is_alone=False) == [
+            *([f"next: {UNCOMPARED}: {why}"] if why else []), "IMPORT next: OK 2 1 0"]
+
+
+def test_no_copy_before_an_import(place: Place, store: Path, checked: Path) -> None:
+    """Where there can be no copy the import goes on, and that is told; where none is wanted there
+    is none."""
+    checked.mkdir()
+    text = f"{UNCOMPARED}: no copy: File exists"
+    with Hub(place, store, releases=place.releases) as hub:
+        hub.owner.ask("NOTES")
+        assert notes_of(hub.owner, "IMPORT next") == ([f"hub: {text}"], "OK 2 1 0")
+        assert hub.logged() == [f"next: {text}", "IMPORT next: OK 2 1 0"]
+    with Hub(place, store, "--import-unchecked", releases=place.releases) as hub:
+        hub.owner.ask("NOTES")
+        assert notes_of(hub.owner, "IMPORT package/Delta") == ([], "OK 3 1 0")
+        assert hub.logged() == ["IMPORT package/Delta: OK 3 1 0"]
+
+
+def test_no_room_before_an_import(place: Place, store: Path) -> None:
+    """Nor is there a copy that would leave no room for a merge."""
+    with Hub(place.changed("store.py", "\nROOM = 2", "\nROOM = 1 << 40"), store,
+             releases=place.releases) as hub:
+        hub.owner.ask("NOTES")
+        notes = [f"hub: {UNCOMPARED}: no copy: too little room on the disk"]
+        assert notes_of(hub.owner, "IMPORT next") == (notes, "OK 2 1 0")
+        assert hub.owner.ask("CHECK package/Delta") == ["OK 3 1 0"]
+
+
+def test_a_check_that_takes_too_long(place: Place, store: Path, checked: Path) -> None:
+    """It is ended, and the import goes on."""
+    limit = "LONGEST_CHECK = "
+    soon = place.wrapped(WAITING).changed("checking.py", limit + "3600", limit + "0.5")
+    with Hub(soon, store, releases=place.releases) as hub:
+        hub.owner.ask("NOTES")
+        why = f"{UNCOMPARED}: its check ended without a reply"
+        assert notes_of(hub.owner, "IMPORT next") == ([f"hub: {why}"], "OK 2 1 0")
+        assert len(hub.programs()) == 1 and not checked.exists()
+
+
+def score(number: int) -> int:
+    """How soon the system kills a process where memory runs out."""
+    return int(Path(f"/proc/{number}/oom_score_adj").read_text("ascii"))
+
+
+def test_only_imports_wait_for_a_check(place: Place, store: Path, checked: Path) -> None:
+    """While a release is checked before its import, others ask and make backups. Other imports wait
+    for theirs, and are checked on a copy that has the ones before."""
+    waiting, copy = place.wrapped(WAITING), place.path("copy")
+    write_release(place.releases / "again", {"C": [concept(20, active=0)]})
+    with Hub(waiting, store, releases=place.releases) as hub:
+        first, second, other = (hub.client() for _ in range(3))
+        for client in (first, second):
+            client.ask("NOTES")
+        first.send(b"IMPORT next\n")
+        until("the release is checked", waiting.path("checking").exists)
+        assert sorted(map(score, hub.programs())) == [score(hub.process.pid), KILLED_FIRST]
+        second.send(b"IMPORT again\n")
+        assert other.ask(f"GET C {concept_id(1)} 20250131")[-1] == "END 1"
+        assert other.ask(f"BACKUP {copy}") == ["OK 1 10 1"]
+        assert other.ask("STATUS") == ["OK 1 10 1 -"]
+        assert not first.has_reply(0.2) and not second.has_reply()
+        waiting.path("check on").touch()
+        assert first.read() == ["OK 2 1 0"]
+        note, reply = second.read()
+        assert reply == "ERR 32 Contradiction 1 2" and ": import 2 brought " in note
+    assert not checked.exists()
+
+
+def test_one_copy_at_a_time(place: Place, store: Path) -> None:
+    """The check before an import waits for one that another client wants."""
+    waiting = place.wrapped(WAITING)
+    with Hub(waiting, store, releases=place.releases) as hub:
+        first, second = hub.client(), hub.client()
+        first.send(f"VERIFY {SNAPSHOT}\n".encode())
+        until("the Snapshot is compared", waiting.path("checking").exists)
+        second.send(b"IMPORT next\n")
+        assert not second.has_reply(0.2)
+        assert len(hub.programs()) == 2
+        waiting.path("check on").touch()
+        assert (first.read(), second.read()) == ([WHOLE], ["OK 2 1 0"])
+
+
+def test_an_import_of_a_hub_that_ends(place: Place, store: Path, checked: Path) -> None:
+    """A hub that is stopped while a release is checked imports nothing, and waits for nothing."""
+    patient = place.wrapped(WAITING).changed("clients.py", "LAST_SECONDS, WAIT_SECONDS = 2, ",
+                                             "LAST_SECONDS, WAIT_SECONDS = 3600, ")
+    before, program = store.read_bytes(), patient.program.parent
+    imports = store.with_name(store.name + ".imports")
+    listed = imports.read_bytes()
+    with Hub(patient, store, releases=place.releases) as hub:
+        first, second = hub.client(), hub.client()
+        first.send(b"IMPORT next\n")
+        until("the release is checked", (program / "checking").exists)
+        second.send(b"IMPORT package/Delta\n")
+        started, began = hub.programs(), time.monotonic()
+        assert len(started) == 2 and checked.exists()
+        assert hub.stop() == 0
+        assert time.monotonic() - began < SOON_SECONDS
+        assert first.line() == second.line() == b""
+        assert "IMPORT next: no reply" in hub.logged(is_alone=False)
+    assert store.read_bytes() == before and not checked.exists()
+    assert imports.read_bytes() == listed
+    assert not any(Path(f"/proc/{number}").exists() for number in started)
+
+
+# ---- What is refused
 
 
 def test_what_stands_in_the_way(place: Place, store: Path, checked: Path) -> None:
@@ -226,6 +421,18 @@ os.execv(PROGRAM, [PROGRAM, *sys.argv[1:]])
         owner = hub.client()
         for word, line in (("Check", "CHECK next"), ("Verify", f"VERIFY {SNAPSHOT}")):
             assert owner.ask(line) == [f"ERR hub {word} the program ended"]
+
+
+def test_a_program_that_is_gone(place: Place, store: Path) -> None:
+    """Where no other one can be started, nothing is checked, and imports go on."""
+    gone = place.wrapped("import os, sys\nos.execv(PROGRAM, [PROGRAM, *sys.argv[1:]])\n")
+    with Hub(gone, store, releases=place.releases) as hub:
+        gone.program.unlink()
+        hub.owner.ask("NOTES")
+        why = f"hub: {gone.program}: No such file or directory"
+        assert notes_of(hub.owner, "CHECK next") == ([why], "ERR hub Check the program ended")
+        notes = [why, f"hub: {UNCOMPARED}: its check ended without a reply"]
+        assert notes_of(hub.owner, "IMPORT next") == (notes, "OK 2 1 0")
 
 
 @pytest.mark.parametrize("line", ("CHECK wrong", f"VERIFY {SNAPSHOT}"))

@@ -67,16 +67,17 @@ def test_bad_copies(place: Place, store: Path, change: Callable[[Place, Path], o
 
 # What a file of somebody else has.
 FOREIGN = b"somebody else's"
-# Before each part of a copy the hub waits until there is a file.
+# Before each part of a backup the hub waits until there is a file.
 COPYING = "                self.go_on()\n"
 SLOWLY = """\
-                while not (self.is_stopped.wait(0.01) or os.path.exists(%r)):
+                while not (made.path == self.copy or self.is_stopped.wait(0.01)
+                           or os.path.exists(%r)):
                     pass
 """
 
 
 def slow_copies(place: Place, go_on: Path) -> Place:
-    """The same with copies that wait for the file of this name."""
+    """The same with backups that wait for the file of this name."""
     return place.changed("store.py", COPYING, SLOWLY % str(go_on) + COPYING)
 
 

@@ -142,15 +142,15 @@ def test_idle(place: Place, two_imports: Path) -> None:
 def test_slow_lines(place: Place, two_imports: Path) -> None:
     """A line that takes long is logged, with its user. What is behind it hasn't taken as long."""
     slow = place.wrapped(HANDING_ON % (f"""
-    if b"RECEIPT 2" in line:
+    if b"AT 2 RECEIPT 2" in line:
         time.sleep({SLOW_SECONDS})""", ""))
     with Hub(slow, two_imports) as hub:
-        hub.owner.send(b"RECEIPT 1\nRECEIPT 2\nRECEIPT 1\n")
+        hub.owner.send(b"RECEIPT 1\nAT 2 RECEIPT 2\nRECEIPT 1\n")
         assert [hub.owner.read()[0].split(" ")[1] for _ in range(3)] == ["1", "2", "1"]
         # (Other lines may take over a second, too, where the machine has much to do.)
         told = re.findall(r"([0-9.]+) s for (.*)", "\n".join(hub.logged()))
         slow_ones = [line for seconds, line in told if float(seconds) >= SLOW_SECONDS]
-        assert slow_ones == [f"RECEIPT 2 of user {os.getuid()}"]
+        assert slow_ones == [f"AT 2 RECEIPT 2 of user {os.getuid()}"]
 
 
 def test_replaced(hub: Hub, place: Place, store: Path) -> None:

@@ -352,7 +352,8 @@ def test_steps(place: Place) -> None:
     that a client has begun is left to that."""
     recording = place.wrapped(RECORDER)
     own = store_to_merge(place)
-    with Hub(recording, own, "--merge-above", "2", releases=place.releases) as hub, Asking(hub):
+    words = ("--merge-above", "2", "--import-unchecked")
+    with Hub(recording, own, *words, releases=place.releases) as hub, Asking(hub):
         for line, count in ((b"IMPORT third\n", 100), (b"IMPORT between\n", 2_000)):
             hub.owner.send(line + b"STATUS\n" * count)
         assert hub.owner.read() == ["OK 3 2000 0"]

@@ -1,7 +1,7 @@
 """Tries of what in a release people are warned, with the built program: a made package of all sorts
 of files, whose second module builds on the first, in 8 releases, as Fulls and as Deltas. Sound ones
 are imported without a warning, and each of what goes wrong is told by its own sentence, by `import`,
-by `import --check` and, where a store isn't needed for it, by `serve`; and through the hub."""
+by `import --check`, through the hub and, where a store isn't needed for it, by `serve`."""
 
 from __future__ import annotations
 
@@ -126,12 +126,21 @@ def package(place: Place, all_rows: list[Row]) -> Package:
 
 
 def warnings(place: Place, store: Path, release: Path) -> list[str]:
-    """What people are told of a release by a check, and then the same by the import."""
-    words = ("--quiet", "--store", store, release)
+    """What people are told of a release by a check, and then the same by the import; and by that of
+    a hub, to who asks for notes and in the log."""
+    words, served_by_hub = ("--quiet", "--store", store, release), place.path("store of a hub")
+    shutil.copy(store, served_by_hub)
     checked, imported = place.run("import", "--check", *words), place.run("import", *words)
     assert checked[:2] == imported[:2] and checked.status == 0, (checked, imported)
     assert checked.faults == imported.faults
-    return checked.faults.splitlines()
+    told = checked.faults.splitlines()
+    with Hub(place, served_by_hub, releases=release.parent) as hub:
+        hub.owner.ask("NOTES")
+        reply = hub.owner.ask(f"IMPORT {release.name}")
+        assert reply == [*(f"NOTE {line}" for line in told), imported.output.rstrip("\n")]
+        assert [line for line in hub.told().splitlines() if line.startswith("sctd: ")] == told
+    served_by_hub.with_name(served_by_hub.name + ".imports").unlink()
+    return told
 
 
 def served(place: Place, store: Path, release: Path) -> list[str]:
@@ -334,8 +343,8 @@ def cut(release: Path) -> Path:
 
 
 def test_hub(place: Place, package: Package) -> None:
-    """The hub's CHECK tells all, and its IMPORT what needs no store, to who asks for notes; the log
-    has it too. Sound releases are told nothing of."""
+    """The hub's CHECK and IMPORT tell all, and one that isn't checked what needs no store, to who
+    asks for notes; the log has it too. Sound releases are told nothing of."""
     store = place.make_store(layout=3)
     no_file = WARNING + "a file of concepts was taken, and no Language file"
     maps = next(rf2.files_of(package.delta(2), ["SimpleMap"]))[1].name
@@ -350,18 +359,22 @@ def test_hub(place: Place, package: Package) -> None:
         (without(with_a_stranger(package.delta(3)), "Language"), [no_file],
          [UNKNOWN.format(STRANGER)]),
         (package.part(4, EXTENSION), [], missing), (package.part(4, rf2.CORE), [], []))
-    wanted = Counter[str]()
-    with Hub(place, store, releases=place.releases) as hub:
-        client, other = hub.client(), hub.client()
-        assert client.ask("NOTES") == ["OK"]
-        for release, by_itself, beside in releases:
-            name, told = release.name, by_itself + beside
-            assert sorted(notes_of(client, f"CHECK {name}")) == sorted(told), name
-            assert notes_of(other, f"CHECK {name}") == []
-            assert notes_of(client, f"IMPORT {name}") == by_itself, name
-            wanted.update(told + told + by_itself)
-        logged = (line for line in hub.told().splitlines() if line.startswith(WARNING))
-        assert Counter(logged) == wanted
+    for is_checked in (True, False):
+        wanted, own = Counter[str](), place.path(f"own {is_checked}")
+        shutil.copy(store, own)
+        words = ["--import-unchecked"] * (not is_checked)
+        with Hub(place, own, *words, releases=place.releases) as hub:
+            client, other = hub.client(), hub.client()
+            assert client.ask("NOTES") == ["OK"]
+            for release, by_itself, beside in releases:
+                name, told = release.name, by_itself + beside
+                assert sorted(notes_of(client, f"CHECK {name}")) == sorted(told), name
+                assert notes_of(other, f"CHECK {name}") == []
+                by_import = told if is_checked else by_itself
+                assert sorted(notes_of(client, f"IMPORT {name}")) == sorted(by_import), name
+                wanted.update(told + told + by_import)
+            logged = (line for line in hub.told().splitlines() if line.startswith(WARNING))
+            assert Counter(logged) == wanted
 
 
 # ---- None of it changes what is done

@@ -31,7 +31,7 @@ SCRIPTS: list[tuple[str, ...]] = [
     ("trials/by_pytest.py", "sessions", "crowds", "digests", "openings"),
     ("trials/by_pytest.py", "duties", "copies"),
     ("trials/by_pytest.py", "checks", "verify", "warnings"),
-    ("trials/by_pytest.py", "imports"),
+    ("trials/by_pytest.py", "imports", "lists"),
     ("trials/by_pytest.py", "readers", "exports", "editions"),
     ("trials/by_pytest.py", "operators"),
     ("trials/refuse_growths.py", "script"),

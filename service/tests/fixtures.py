@@ -147,9 +147,11 @@ class Service:
         subprocess.run([self.program, *words], check=True, capture_output=True, timeout=SECONDS)
 
     def make_store(self, *releases: str) -> None:
+        """Makes a store of releases, without a list of imports, as an older program left it."""
         self.run("init", "--layout", str(self.layout), "--store", self.store)
         for name in releases:
             self.run("import", "--quiet", "--store", self.store, str(self.releases / name))
+        Path(self.store + ".imports").unlink(missing_ok=True)
 
     def start_hub(self) -> None:
         sockets = ("--socket", self.socket, "--questions", self.questions)

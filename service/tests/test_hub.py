@@ -202,14 +202,14 @@ class TestReaders:
                                     capture_output=True, text=True, timeout=SECONDS)
             assert (writer.returncode, writer.stdout) == (1, "ERR 2 DiskFault\n")
 
-    @pytest.mark.parametrize("more", (["--make-store"], ["--socket", "/nowhere"]))
-    def test_words_that_change_a_store(self, stopped: Service, more: list[str]) -> None:
+    def test_words_that_change_a_store(self, stopped: Service) -> None:
         _, program, store, releases, *sockets = self.hub_words(stopped, "one")
         words = ["--program", program, "--store", store, "--releases", releases, *sockets]
-        done = subprocess.run([sys.executable, stopped.hub_script, *words, "--read-only", *more],
-                              check=False, capture_output=True, text=True, timeout=SECONDS)
+        words += ["--read-only", "--make-store"]
+        done = subprocess.run([sys.executable, stopped.hub_script, *words], check=False,
+                              capture_output=True, text=True, timeout=SECONDS)
         assert (done.returncode, done.stdout) == (2, "")
-        assert "--read-only goes with --questions alone" in done.stderr
+        assert "--read-only and --make-store don't go together" in done.stderr
 
 
 class TestStart:

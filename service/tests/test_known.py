@@ -51,7 +51,7 @@ def without_time(resource: Any) -> Any:
 
 class TestWithoutList(Asked):
     def test_refusal(self) -> None:
-        """The store of all tests was filled without a hub."""
+        """The store of all tests has no list."""
         for known, wanted in (("2020-10-15", (422, "not-supported")), ("x", (400, "invalid"))):
             status, said = self.gateway.fhir(LOOKUP, known=known, **OPERATIONS[0][1])
             assert (status, issue(said)) == wanted

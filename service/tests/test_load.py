@@ -61,7 +61,10 @@ class TestLoad(Asked):
         def is_refused() -> bool:
             while len(many) < limits.CONNECTIONS:
                 many.append(self.busy())
-            answers.append(self.gateway.send("GET", "/page.css"))
+            try:
+                answers.append(self.gateway.send("GET", "/page.css"))
+            except ConnectionError:  # It was refused before all of it was sent.
+                return False
             if answers[-1].status != 503:
                 # One of them wasn't at work yet, and has made room.
                 many.append(self.busy())

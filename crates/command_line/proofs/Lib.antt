@@ -4,3 +4,4 @@ pub mod OnlyRead
 pub mod Told
 pub mod Digested
 mod Comparing
+mod Prepared

@@ -69,10 +69,9 @@ pub record IsCopied {D : Type 0} (view : D → DiskView) (imports : Option ℕ) 
   pub target_failures : Counts CountsTarget result (view target).failures
       (view target_left).failures
 
--- a copy is kept, and what was made for one that failed is removed
-abbrev pub IsKept : {D : Type 0} → HostView D → Result DirectoryValue CopyFault → D → Option D
-    → Type 0
-IsKept host (Ok copy) made left = left ≡ Some made
+-- what was made is kept, and removed if the task failed
+abbrev pub IsKept : {T E D : Type 0} → HostView D → Result T E → D → Option D → Type 0
+IsKept host (Ok done) made left = left ≡ Some made
 IsKept host (Err e) made left = IsRemoved host made left
 
 -- A copy was made of the store on one disk onto another one, or the result says why not. The

@@ -14,5 +14,6 @@ pub mod Verifying
 pub mod Tasks
 pub mod Merging
 pub mod Copies
+pub mod Preparing
 pub mod Runs
 pub mod Private

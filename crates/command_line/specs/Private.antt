@@ -1,6 +1,9 @@
 -- Definitions for private functions and proofs, of this crate or of one above it. No public clause
 -- cites them.
 pub mod Verifying
+pub mod Preparing
+pub mod Listed
+pub mod Told
 pub mod ShownAt
 pub mod Warnings
 use Rattle.std.specs.Prelude.{◌≡◌, ℕ, ◌<◌, ◌≤◌, false, List, [], ◌∷◌, codes, decimal}

@@ -31,9 +31,10 @@ use Rattle.command_line.specs.declared.words.Refused.{Refused}
 use Rattle.command_line.specs.declared.words.Refused.TheVariants as refusals
 use Rattle.command_line.specs.Endings.{Report, report, Tells}
 use Rattle.command_line.specs.Words.{AskFor, AskForNone}
-use Rattle.command_line.specs.Hosts.{HostView, IsRemoved}
+use Rattle.command_line.specs.Hosts.{HostView, IsRemoved, source_in}
 use Rattle.command_line.specs.Tasks.{IsMade, IsServingNew, IsWorkOnDisk}
 use Rattle.command_line.specs.Copies.{IsCopyMade}
+use Rattle.command_line.specs.Preparing.{IsPreparedOn}
 
 -- how an action asks for its disk: `init` for one that exists or is made, a server that only reads
 -- for one that is only read, and all others for one that exists
@@ -128,6 +129,18 @@ pub record IsNotOpened {D : Type 0} (host : HostView D) (name : List ℕ) (actio
   pub none_made : made ≡ None
   pub asked : after ≡ raised_by before 1
 
+-- A store of layout 3 was prepared in the file of a name, which exists or is made, with the release
+-- of one name in a folder, once it was sure that the file's name survives a crash. If it can't be
+-- opened, or that isn't sure, the failure was written, and the disk is unchanged.
+abbrev pub IsPreparedAt : {D : Type 0} → HostView D → (D → DiskView) → (before : ℕ)
+    → (to folder name : List ℕ) → (left : Option D) → Report → Type 0
+IsPreparedAt {D} host view before to folder name left report =
+    (host.opens before OpenOrMake to None × IsMissing report × (left ≡ None))
+    ⊎ ((disk : D) × host.opens before OpenOrMake to (Some disk)
+    × ((host.settles to false × IsMissing report × (left ≡ Some disk))
+    ⊎ (host.settles to true
+    × IsPreparedOn host (source_in host folder) view name disk left report)))
+
 -- the lines of the script were served like those of an input, from a new store in memory and the
 -- sample releases
 pub record IsDemonstrated (script : List ℕ) (report : Report) : Type 0 where
@@ -155,6 +168,10 @@ abbrev pub Does : {D : Type 0} → HostView D → (D → DiskView) → List ℕ 
 Does host view script (tasks.At store action) left made ended streams before after =
     IsDoneAt host view store.now action left made ended streams before after
     ⊎ IsNotOpened host store.now action left made ended streams before after
+Does host view script (tasks.Prepare to folder name quiet) left made ended streams before after =
+    IsPreparedAt host view before to.now folder.now name.now left
+    (report ended streams.old streams.new)
+    × (streams.rest ≡ streams.input) × (made ≡ None) × (after ≡ raised_by before 1)
 Does host view script tasks.Demo left made ended streams before after =
     IsDemonstrated script (report ended streams.old streams.new) × (left ≡ None)
     × (streams.rest ≡ streams.input) × (made ≡ None) × (after ≡ before)

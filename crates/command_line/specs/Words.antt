@@ -119,6 +119,11 @@ verify_command = with_rule (with_rule (with_rule
     (with_rule (new_app (codes "verify")) (option (codes "store"))) (optional (codes "releases")))
     list_option) (wanted (codes "name"))
 
+abbrev pub prepare_command : App
+prepare_command = with_rule (with_rule (with_rule
+    (with_rule (new_app (codes "prepare")) (option (codes "to"))) (optional (codes "releases")))
+    (flag (codes "quiet"))) (wanted (codes "name"))
+
 abbrev pub demo_command : App
 demo_command = new_app (codes "demo")
 
@@ -132,9 +137,10 @@ empty_program = record {
 abbrev pub program : ValueParser → App
 program parser =
     with_subcommand (with_subcommand (with_subcommand (with_subcommand (with_subcommand
-    (with_subcommand (with_subcommand (with_subcommand (with_subcommand empty_program
-    init_command.top) import_command.top) (serve_command parser).top) status_command.top)
-    merge_command.top) copy_command.top) digest_command.top) verify_command.top) demo_command.top
+    (with_subcommand (with_subcommand (with_subcommand (with_subcommand (with_subcommand
+    empty_program init_command.top) import_command.top) (serve_command parser).top)
+    status_command.top) merge_command.top) copy_command.top) digest_command.top)
+    verify_command.top) prepare_command.top) demo_command.top
 
 -- ---- what is asked for
 
@@ -194,6 +200,9 @@ abbrev pub Reads : Option (Text × List Row) → Task → Type 0
 Reads None task = ⊥
 Reads (Some read) (tasks.At store action) =
     (first_of (codes "store") read.1 ≡ Some store.now) × IsAction read.0 read.1 action
+Reads (Some read) (tasks.Prepare to folder name quiet) = (read.0 ≡ codes "prepare")
+    × (first_of (codes "to") read.1 ≡ Some to.now)
+    × NamesRelease read.1 folder.now name.now quiet
 Reads (Some read) tasks.Demo = read.0 ≡ codes "demo"
 
 -- the words, whose first is the program's name, are valid and ask for the task

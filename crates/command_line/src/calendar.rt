@@ -2,6 +2,9 @@
 
 ghost use Rattle.std.specs.Prelude.{◌≤◌};
 
+/// How many seconds a day has.
+pub(crate) const SECONDS_OF_DAY: u64 = 86_400;
+
 /// The year in which the system's clock begins.
 const FIRST_YEAR: u32 = 1970;
 

@@ -106,6 +106,9 @@ fn copy_onto<H: Host, O: Write, E: Write>(
 {
     let (mut source, mut target) = (source, target);
     let copied = copy(alloc, &mut source, &mut target, imports, layout);
+    if copied.is_ok() {
+        host.list_copy(alloc, path, to, imports, faults);
+    }
     let ended = tell_copy(alloc, &copied, output);
     let context = context_of(host, path, to, &source, &target, &copied);
     tell_why(ended, &context, faults);

@@ -1,9 +1,10 @@
 //! The real files and folders.
 
-use crate::calendar::day_after_first;
+use crate::calendar::{SECONDS_OF_DAY, day_after_first};
 use crate::file_names::{FileName, name_disk, name_made, remove_made};
 use crate::holders::holder_of;
-use crate::host::{Host, Mode};
+use crate::host::{Host, Imported, Mode};
+use crate::import_list::{add_import, copy_list};
 use crate::named_disk::NamedDisk;
 use crate::progress::{Progress, tell_later};
 use disk_model::{FileDisk, OpenFault, sync_folder_of};
@@ -14,6 +15,7 @@ use release_folder::{
 };
 use shown_names::Shown;
 use std::alloc::Global;
+use std::env::Env;
 use std::fs::{self, File, Files, OpenOptions};
 use std::io::{self, Write};
 use std::os::unix::fs::OpenOptionsExt;
@@ -36,7 +38,10 @@ impl<'a, R: Files<File = File> + AllocGlobal> FileHost<'a, R> {
 type NamedFile<'a, R> = NamedDisk<FileDisk, FileName<'a, R>>;
 
 // promise: a_command_does_what_its_words_say
-impl<'a, R: Files<File = File> + Clock + AllocGlobal + Clone + Drop> Host for FileHost<'a, R> {
+impl<'a, R> Host for FileHost<'a, R>
+where
+    R: Files<File = File> + Clock + Env + AllocGlobal + Clone + Drop,
+{
     ghost use Rattle.command_line.specs.Hosts.{unspecified};
 
     type Disk = NamedFile<'a, R>;
@@ -190,6 +195,21 @@ impl<'a, R: Files<File = File> + Clock + AllocGlobal + Clone + Drop> Host for Fi
         let now = self.rt.since_1970().ok()?;
         day_after_first(now.as_secs() / SECONDS_OF_DAY)
     }
+
+    fn list_import<E: Write>(&self, alloc: Global, imported: &Imported<'_>, faults: &mut E) {
+        add_import(self.rt, alloc, imported, faults)
+    }
+
+    fn list_copy<E: Write>(
+        &self,
+        alloc: Global,
+        from: &str,
+        to: &str,
+        imports: Option<u32>,
+        faults: &mut E,
+    ) {
+        copy_list(self.rt, alloc, from, to, imports, faults)
+    }
 }
 
 /// Writes why a folder can't be read, unless memory ran out.
@@ -203,14 +223,11 @@ fn told<E: Write>(fault: &FolderReadFault, faults: &mut E) -> SourceFault {
     }
 }
 
-/// How many seconds a day has.
-const SECONDS_OF_DAY: u64 = 86_400;
-
 /// The permissions of a file that only its owner may read and write.
 const OWNER_ALONE: u32 = 0o600;
 
 /// Makes an empty file with these permissions, if the name isn't in use, not even for a link.
-fn make_new<R: Files<File = File>>(rt: &R, path: &str) -> io::Result<File> {
+pub(crate) fn make_new<R: Files<File = File>>(rt: &R, path: &str) -> io::Result<File> {
     OpenOptions::new()
         .read(true)
         .write(true)
@@ -243,7 +260,7 @@ fn tell_left<E: Write>(path: &str, error: io::Error, faults: &mut E) {
 }
 
 /// Makes an empty file with these permissions if there is none. An existing file keeps its own.
-fn make_private<R: Files<File = File>>(rt: &R, path: &str) -> io::Result<()> {
+pub(crate) fn make_private<R: Files<File = File>>(rt: &R, path: &str) -> io::Result<()> {
     OpenOptions::new()
         .read(true)
         .write(true)

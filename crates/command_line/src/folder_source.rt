@@ -5,15 +5,15 @@ ghost use Rattle.command_line.specs.OnlyRead.{IsOnlyRead};
 
 use crate::endings::Ending;
 use crate::file_warning::warn_of_files;
-use crate::host::Host;
+use crate::host::{Host, Imported};
 use crate::outline::{Outline, outline_of};
 use crate::progress::tell_taken;
 use crate::telling::{is_about_row, tell_row};
 use crate::warning::{Days, tell_uncompared, tell_warnings};
 use disk_model::Disk;
-use history_store::{Refusal, Store};
+use history_store::{Receipt, Refusal, Store};
 use import_check::{Release, Scope};
-use line_server::{LineRefusal, ServeFault, Source, SourceFault};
+use line_server::{LineRefusal, Reply, ServeFault, Source, SourceFault};
 use rf2_values::EffectiveTime;
 use std::alloc::Global;
 use std::io::{self, Write};
@@ -80,6 +80,26 @@ impl<'a, H: Host, E: Write> FolderSource<'a, H, E> {
         }
     }
 
+    /// Has an import listed beside the store of this name, if it was confirmed by this reply.
+    pub(crate) fn list_import(
+        &mut self,
+        alloc: Global,
+        store: &str,
+        name: &str,
+        outcome: &Result<Reply, LineRefusal>,
+    ) {
+        let Some(receipt) = receipt_of(outcome) else {
+            return;
+        };
+        let imported = Imported {
+            store,
+            folder: self.dir,
+            name,
+            receipt,
+        };
+        self.host.list_import(alloc, &imported, self.faults);
+    }
+
     /// Reports what was taken of a release, and what may be wrong with it by itself.
     fn tell_read(&mut self, release: &Release, scope: Scope)
         ensures host { self.new.host.now ≡ self.old.host.now }
@@ -97,6 +117,24 @@ impl<'a, H: Host, E: Write> FolderSource<'a, H, E> {
             let _ = writeln!(self.faults, "sctd: {}", self.doing);
         }
     }
+}
+
+/// The receipt that the outcome of an import has, if it was confirmed.
+fn receipt_of(outcome: &Result<Reply, LineRefusal>) -> Option<Receipt> {
+    match outcome {
+        Ok(reply) => receipt_in(str::from_utf8(reply.last()).ok()?),
+        Err(_) => None,
+    }
+}
+
+/// The receipt in the line `OK` of an import.
+fn receipt_in(line: &str) -> Option<Receipt> {
+    let mut numbers = line.strip_prefix("OK ")?.strip_suffix('\n')?.split(' ');
+    Some(Receipt {
+        number: numbers.next()?.parse().ok()?,
+        new: numbers.next()?.parse().ok()?,
+        repeated: numbers.next()?.parse().ok()?,
+    })
 }
 
 /// Whether a release was compared with the store: it was taken, or contradicts what is there.

@@ -137,6 +137,16 @@ ERR 46 Differs, and how many components are missing in the store, more, and othe
 
 The guide tells more: docs/OPERATE.md, \"Is the store whole?\"";
 
+pub(crate) const PREPARE: &str = "Examples:
+  sctd prepare --to r1.sctd releases/r1
+  sctd prepare --quiet --releases releases --to r1.sctd r1
+
+The store has layout 3 and this import alone, as init and import make it. The answer is
+OK, how many rows it has, and how many lines of the release repeat a row. Where the
+release is refused, the file is removed.
+
+The guide tells more: docs/OPERATE.md, \"A release on its own\"";
+
 pub(crate) const DEMO: &str = "Example:
   sctd demo
 

@@ -8,6 +8,7 @@ ghost use Rattle.command_line.specs.Hosts.{HostView, IsRemoved, MakesAsBefore};
 ghost use Rattle.command_line.specs.declared.host.Mode.TheVariants.{Open};
 
 use disk_model::Disk;
+use history_store::Receipt;
 use import_check::{Release, Scope};
 use line_server::SourceFault;
 use release_folder::SnapshotFile;
@@ -25,6 +26,19 @@ pub enum Mode {
     OpenOrMake,
     /// A new one, under a name that isn't in use.
     MakeNew,
+}
+
+/// An import that a store has confirmed.
+#[derive(Clone, Copy, Debug)]
+pub struct Imported<'a> {
+    /// The name of the store.
+    pub store: &'a str,
+    /// The folder that has the release's folder.
+    pub folder: &'a str,
+    /// The name of the release.
+    pub name: &'a str,
+    /// What the store replied.
+    pub receipt: Receipt,
 }
 
 /// The disks of stores and the folders of releases, by name. Where a call doesn't do what is asked
@@ -118,4 +132,18 @@ pub trait Host {
 
     /// The day that it is, as a number of eight digits, if that is known. Only warnings rest on it.
     fn today(&self) -> Option<u32>;
+
+    /// Adds an import to the list of imports beside its store. No reply rests on the list.
+    fn list_import<E: Write>(&self, alloc: Global, imported: &Imported<'_>, faults: &mut E);
+
+    /// Makes the list beside a copy of that beside the store `from`, if there is one, and says in it
+    /// how many imports were copied, unless it is all. No reply rests on the list.
+    fn list_copy<E: Write>(
+        &self,
+        alloc: Global,
+        from: &str,
+        to: &str,
+        imports: Option<u32>,
+        faults: &mut E,
+    );
 }

@@ -5,9 +5,9 @@ ghost use Rattle.command_line.specs.Endings.{report};
 ghost use Rattle.command_line.specs.Hosts.{source_in};
 ghost use Rattle.command_line.specs.Tasks.{IsReleaseTold};
 
-use crate::answering::answer_read;
+use crate::answering::{answer_read, carried_out};
 use crate::check_source::CheckSource;
-use crate::endings::Ending;
+use crate::endings::{Ending, tell};
 use crate::folder_source::FolderSource;
 use crate::host::Host;
 use disk_model::Disk;
@@ -17,9 +17,11 @@ use line_server::ServeFault;
 use std::alloc::Global;
 use std::io::Write;
 
-/// Imports a release into an open store, and writes the reply. Then prints warnings for people.
+/// Imports a release into the open store of this name, adds that to the list beside the store, and
+/// writes the reply. Then prints warnings for people.
 pub(crate) fn import<D: Disk + Drop, H: Host, E: Write, O: Write>(
     alloc: Global,
+    path: &str,
     name: &str,
     source: &mut FolderSource<'_, H, E>,
     store: &mut Store<D>,
@@ -30,7 +32,9 @@ pub(crate) fn import<D: Disk + Drop, H: Host, E: Write, O: Write>(
         (report result (O.contents output.old) (O.contents output.new)) }
 {
     let before = store.latest_time();
-    let ended = answer_read(alloc, &import_request(name), source, store, output);
+    let outcome = carried_out(alloc, &import_request(name), source, store);
+    source.list_import(alloc, path, name, &outcome);
+    let ended = tell(alloc, output, outcome);
     source.tell_warnings(alloc, ended, before, store);
     ended
 }

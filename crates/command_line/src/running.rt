@@ -7,6 +7,7 @@ ghost use Rattle.command_line.specs.Tasks.{IsWorkDone, IsWorkOnDisk, held_of, wo
 ghost use Rattle.command_line.specs.Hosts.{MakesAsBefore};
 ghost use Rattle.command_line.specs.declared.host.Mode.TheVariants.{Open};
 ghost use Rattle.command_line.specs.Runs.{Does, IsActionDone, IsMadeAt, FindsFolder, IsUsed};
+ghost use Rattle.command_line.specs.Runs.{IsDoneAt, IsNotOpened};
 ghost use Rattle.command_line.specs.Runs.{mode_of, IsDemonstrated, IsDemonstration};
 ghost use Rattle.command_line.specs.Runs.{IsRun, IsNoTask, IsExplained};
 ghost use Rattle.history_store.specs.Answers.{IsReady};
@@ -22,8 +23,9 @@ use crate::importing::{check, import};
 use crate::inspecting::{figures_of, tell_status};
 use crate::making::init;
 use crate::merging::merge;
+use crate::preparing::{Wanted, prepare};
 use crate::serving::{serve_all, serve_new};
-use crate::telling::{Context, tell_figures, tell_why};
+use crate::telling::{tell_end, tell_figures};
 use crate::told_lines::ToldLines;
 use crate::verifying::{Asked, verify};
 use crate::words::{Action, Refused, Task, Work, task_of};
@@ -83,14 +85,51 @@ fn perform<H: Host, I: Read, O: Write, E: Write>(
         (streams (I.remaining input.old) (I.remaining input.new)
         (O.contents output.old) (O.contents output.new)) (H.count asked.old) (H.count asked.new) }
 {
-    let Task::At { store, action } = task else {
-        return (demo(alloc, output), None, None);
-    };
-    let Some(disk) = host.open(asked, mode_of(action), *store, faults) else {
+    match task {
+        Task::At { store, action } => {
+            open_and_do(host, asked, alloc, *store, action, input, output, faults)
+        }
+        Task::Prepare {
+            to,
+            releases,
+            name,
+            quiet,
+        } => {
+            let wanted = Wanted {
+                to: *to,
+                releases: *releases,
+                name: *name,
+                quiet: *quiet,
+            };
+            prepare(host, asked, alloc, wanted, output, faults)
+        }
+        Task::Demo => (demo(alloc, output), None, None),
+    }
+}
+
+/// Asks for the disk of this name, and does an action with it.
+fn open_and_do<H: Host, I: Read, O: Write, E: Write>(
+    host: &H,
+    asked: &mut H::Asked,
+    alloc: Global,
+    path: &str,
+    action: &Action<'_>,
+    input: &mut I,
+    output: &mut O,
+    faults: &mut E,
+) -> Performed<H::Disk>
+    ensures { IsDoneAt (H.view host.now) H.Disk.view path.now action.now result.1 result.2 result.0
+        (streams (I.remaining input.old) (I.remaining input.new)
+        (O.contents output.old) (O.contents output.new)) (H.count asked.old) (H.count asked.new)
+        ⊎ IsNotOpened (H.view host.now) path.now action.now result.1 result.2 result.0
+        (streams (I.remaining input.old) (I.remaining input.new)
+        (O.contents output.old) (O.contents output.new)) (H.count asked.old) (H.count asked.new) }
+{
+    let Some(disk) = host.open(asked, mode_of(action), path, faults) else {
         return (refuse(alloc, output, Refusal::DiskFault), None, None);
     };
     let (ended, left, made) = do_at(
-        host, asked, alloc, *store, action, disk, input, output, faults,
+        host, asked, alloc, path, action, disk, input, output, faults,
     );
     (ended, Some(left), made)
 }
@@ -152,21 +191,6 @@ fn do_at<H: Host, I: Read, O: Write, E: Write>(
             (ended, left, None)
         }
     }
-}
-
-/// Writes why a task on the disk of this name was refused, or its last system error.
-fn tell_end<H: Host, E: Write>(
-    host: &H,
-    path: &str,
-    ended: Result<Ending, ServeFault>,
-    disk: &H::Disk,
-    faults: &mut E,
-) {
-    let context = Context {
-        store: path,
-        last_error: host.last_error(disk),
-    };
-    tell_why(ended, &context, faults);
 }
 
 /// Makes a store of this layout on the disk of this name. Before anything is written, it makes sure
@@ -296,7 +320,7 @@ fn do_work<'a, H: Host, I: Read, O: Write, E: Write>(
             quiet,
         } => {
             let mut source = FolderSource::new(host, *releases, faults, "importing", *quiet);
-            import(alloc, *name, &mut source, store, output)
+            import(alloc, path, *name, &mut source, store, output)
         }
         Work::Check {
             releases,

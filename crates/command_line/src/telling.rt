@@ -4,6 +4,7 @@
 use crate::contradicting::CONTRADICTION;
 use crate::differing::find_other;
 use crate::endings::Ending;
+use crate::host::Host;
 use history_store::Refusal;
 use import_check::ReleaseFile;
 use line_server::{LineRefusal, ServeFault};
@@ -78,6 +79,21 @@ pub(crate) fn tell_why<E: Write>(
         (None, Ok(Ending::Refused(refusal))) => write_refusal(refusal, store, faults),
         (None, _) => Ok(()),
     };
+}
+
+/// Writes why a task on the disk of this name was refused, or its last system error.
+pub(crate) fn tell_end<H: Host, E: Write>(
+    host: &H,
+    path: &str,
+    ended: Result<Ending, ServeFault>,
+    disk: &H::Disk,
+    faults: &mut E,
+) {
+    let context = Context {
+        store: path,
+        last_error: host.last_error(disk),
+    };
+    tell_why(ended, &context, faults);
 }
 
 /// Figures about an open store, for people: its layout, how many blocks it needs, and the greatest

@@ -17,7 +17,7 @@ ghost use Rattle.clap.specs.Walk.{first_of};
 ghost use Rattle.clap.specs.declared.builder.value_parser.ValueParser.{ValueParser};
 ghost use Rattle.segment_index.specs.declared.words.Words.TheVariants as kept;
 ghost use Rattle.command_line.specs.Words.{copy_command, digest_command, imports_option};
-ghost use Rattle.command_line.specs.Words.{verify_command, list_option};
+ghost use Rattle.command_line.specs.Words.{verify_command, list_option, prepare_command};
 ghost use Rattle.command_line.specs.Words.{empty_program, program};
 
 use crate::helps;
@@ -36,7 +36,18 @@ const VERSION: &str = "1.0.0, opens layouts 1, 2 and 3";
 #[derive(Clone, Copy, Debug, PartialEq, Eq)]
 pub enum Task<'a> {
     /// Do this with the file of a store.
-    At { store: &'a str, action: Action<'a> },
+    At {
+        store: &'a str,
+        action: Action<'a>,
+    },
+    /// Make a store of layout 3 in the file `to`, and import the release in the folder `name` below
+    /// `releases` into it. If `quiet`, only print messages about what may be wrong.
+    Prepare {
+        to: &'a str,
+        releases: &'a str,
+        name: &'a str,
+        quiet: bool,
+    },
     /// Answer the lines of a script, with a store in memory.
     Demo,
 }
@@ -268,6 +279,18 @@ fn to<'a>(alloc: Global) -> Arg<'a>
         .action(ArgAction::Set)
 }
 
+/// The option for the file of a store that is prepared.
+fn prepared<'a>(alloc: Global) -> Arg<'a>
+    ensures { IsArgument (option (codes "to")) result }
+{
+    Arg::new(alloc, "to")
+        .long("to")
+        .value_name("FILE")
+        .help("The new or empty file in which the store is made")
+        .required(true)
+        .action(ArgAction::Set)
+}
+
 /// The option for the number of imports.
 fn imports<'a>(alloc: Global) -> Arg<'a>
     ensures { IsArgument imports_option result }
@@ -393,6 +416,17 @@ fn verify<'a>(alloc: Global) -> Result<Command<'a>, AllocError>
         .arg(name(alloc))
 }
 
+fn prepare<'a>(alloc: Global) -> Result<Command<'a>, AllocError>
+    ensures { IfOk result (IsCommand prepare_command) }
+{
+    let about = "Makes a store of one release, in a new or empty file";
+    new_command(alloc, "prepare", about, helps::PREPARE)
+        .arg(prepared(alloc))?
+        .arg(releases_if_given(alloc))?
+        .arg(quiet(alloc))?
+        .arg(name(alloc))
+}
+
 fn demo<'a>(alloc: Global) -> Command<'a>
     ensures { IsCommand demo_command result }
 {
@@ -427,6 +461,7 @@ fn commands<'a>(alloc: Global) -> Result<Command<'a>, AllocError>
         .subcommand(copy(alloc)?)?
         .subcommand(digest(alloc)?)?
         .subcommand(verify(alloc)?)?
+        .subcommand(prepare(alloc)?)?
         .subcommand(demo(alloc))
 }
 
@@ -437,6 +472,9 @@ fn task_in<'a>(matches: &ArgMatches<'a>) -> Option<Task<'a>>
     let (command, found) = matches.subcommand()?;
     if command == "demo" {
         return Some(Task::Demo);
+    }
+    if command == "prepare" {
+        return prepare_of(found);
     }
     let store = found.get_str("store")?;
     let action = action_in(command, found)?;
@@ -519,6 +557,23 @@ fn verify_of<'a>(found: &ArgMatches<'a>) -> Option<Work<'a>>
         releases,
         name,
         list,
+    })
+}
+
+/// The preparation of a store of one release. If no folder of releases is given, it is the one that
+/// contains the release's folder.
+fn prepare_of<'a>(found: &ArgMatches<'a>) -> Option<Task<'a>>
+    ensures { IfSome result (Reads (Some (codes "prepare", rows_of (found_of found.now)))) }
+{
+    let to = found.get_str("to")?;
+    let path = found.get_str("name")?;
+    let (releases, name) = folder_and_name(found.get_str("releases"), path);
+    let quiet = is_set(found, "quiet");
+    Some(Task::Prepare {
+        to,
+        releases,
+        name,
+        quiet,
     })
 }
 

@@ -7,3 +7,4 @@ pub mod Lengths
 pub mod Members
 pub mod Metadata
 pub mod Pairs
+pub mod Texts

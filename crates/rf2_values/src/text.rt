@@ -2,6 +2,7 @@
 
 ghost use Rattle.std.specs.Prelude.{◌≡◌, nat_eq, ℕ, IfOk, MatchOption, IsTrue, ◌↔◌, ⊤, length, ◌≤◌};
 ghost use Rattle.std.specs.Prelude.{List};
+ghost use Rattle.std.specs.Str.{IsUtf8};
 ghost use Rattle.std.specs.Cmp.{partial_equiv_from_equiv};
 ghost use Rattle.std.specs.Cmp.Lexicographic.{nat_list_eq_equiv, pointwise};
 ghost use Rattle.rf2_values.specs.Text.{IsText};
@@ -24,11 +25,19 @@ impl Model for Text {
     ghost invariant = { λ t. IsText t.bytes.items };
 }
 
+/// Whether the bytes are UTF-8. Nearly all texts are ASCII, which is seen faster.
+#[tactic(auto, using(crate::proofs::Texts::ascii_is_utf8))]
+fn is_utf8(bytes: &[u8]) -> bool
+    ensures { IsTrue result ↔ IsUtf8 bytes.now }
+{
+    bytes.is_ascii() || bytes.is_utf8()
+}
+
 /// Whether the bytes are a text: not empty, UTF-8, and without TAB and LF.
 fn is_text(bytes: &[u8]) -> bool
     ensures { IsTrue result ↔ IsText bytes.now }
 {
-    !bytes.is_empty() && bytes.is_utf8() && bytes.iter().all(|b| *b != b'\t' && *b != b'\n')
+    !bytes.is_empty() && is_utf8(bytes) && bytes.iter().all(|b| *b != b'\t' && *b != b'\n')
 }
 
 impl Text {

@@ -136,7 +136,7 @@ pub as_headed : (text more : List ℕ) (t u : Term) → IsBytes text → IsBytes
 as_headed text more t u bytes others t_is u_is = by_head 16 t.head u.head (term_at text t).folded (term_at more u).folded (IsBytes-take t.len (drop t.start text) (IsBytes-drop t.start text bytes)) (IsBytes-take u.len (drop u.start more) (IsBytes-drop u.start more others)) t_is u_is
 
 module _ (text : List ℕ) where
-  abbrev fold_of : Term → List ℕ
+  abbrev pub fold_of : Term → List ℕ
   fold_of t = take t.len (drop t.start text)
 
   abbrev is_lower : Term → Term → Bool
@@ -146,7 +146,7 @@ module _ (text : List ℕ) where
   rises-each t [] h = tt
   rises-each t (u ∷ us) h = (h 0 u (omega arith), rises-each t us (λ k d lt. h (suc k) d (omega arith)))
 
-  rises : (ts : List Term) → ((i j : ℕ) (d : Term) → i ≤ j → j < length ts → is_lt (slice_cmp nat_cmp (fold_of (get_or ts j d)) (fold_of (get_or ts i d))) ≡ false) → TextsRise (terms_at text ts)
+  pub rises : (ts : List Term) → ((i j : ℕ) (d : Term) → i ≤ j → j < length ts → is_lt (slice_cmp nat_cmp (fold_of (get_or ts j d)) (fold_of (get_or ts i d))) ≡ false) → TextsRise (terms_at text ts)
   rises [] h = tt
   rises (t ∷ ts) h = (rises-each t ts (λ k d lt. h 0 (suc k) d (omega arith) (omega arith)), rises ts (λ i j d le lt. h (suc i) (suc j) d (omega arith) (omega arith)))
 

@@ -6,3 +6,4 @@ pub mod Laid
 pub mod Posted
 pub mod Heads
 pub mod InTurns
+pub mod ByHeads

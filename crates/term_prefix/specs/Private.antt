@@ -2,7 +2,7 @@
 -- cites them.
 use Rattle.std.specs.Prelude.{◌≡◌, ◌⊎◌, ◌≤◌, ◌<◌, ℕ, Bool, true, false, List, length, map, nat_eq}
 use Rattle.std.specs.Prelude.{nat_le, ◌+◌, if◌then◌else◌}
-use Rattle.std.specs.Prelude.{Option, Some, None, [], ◌∷◌, ◌++◌, take, flat_map}
+use Rattle.std.specs.Prelude.{Option, Some, None, [], ◌∷◌, ◌++◌, take, drop, flat_map}
 use Rattle.std.specs.List.{filter, starts_with}
 use Rattle.std.specs.Option.{option_to_list}
 use Rattle.std.specs.Ordering.{nat_cmp, is_lt}
@@ -155,6 +155,22 @@ second_taken lists t m = record {
   terms = m.terms ++ moved (number_in_both lists.second lists.first) t ∷ [];
   taken = record { first = m.taken.first; second = m.taken.second + 1 };
 }
+
+-- the term with the number of the 16 bytes behind its head in the head's place
+abbrev pub looked_further : List ℕ → Term → Term
+looked_further text t = record t { head = head 16 (drop 16 (term_at text t).folded) }
+
+-- the term with another head
+abbrev pub with_head : ℕ → Term → Term
+with_head n t = record t { head = n }
+
+-- all have the same head
+abbrev pub HaveOneHead : List Term → Type 0
+HaveOneHead ts = (t u : Term) → Has ts t → Has ts u → t.head ≡ u.head
+
+-- each of the first terms has a smaller head than each of the others
+abbrev pub HeadsAreBelow : List Term → List Term → Type 0
+HeadsAreBelow ts us = (t u : Term) → Has ts t → Has us u → t.head < u.head
 
 -- the term has the head of its folding
 abbrev pub HasHead : List ℕ → Term → Type 0

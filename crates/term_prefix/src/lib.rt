@@ -10,6 +10,7 @@ mod merging;
 mod postings;
 mod sealed;
 mod search;
+mod sorting;
 mod text;
 
 use as_of_index::PerList;

@@ -1,7 +1,7 @@
 //! The terms of rows, in the order in which rows are pushed.
 
 ghost use Rattle.std.specs.Prelude.{◌≡◌, ◌++◌, [], List, length, take, OnOk, OnErr, IfOk};
-ghost use Rattle.std.specs.Prelude.{string_bytes};
+ghost use Rattle.std.specs.Prelude.{string_bytes, IsAscii};
 ghost use Rattle.std.specs.List.Sorted.{IsPermutation};
 ghost use Rattle.std.specs.Str.{IsUtf8};
 ghost use Rattle.history_model.specs.Queries.{folded};
@@ -11,7 +11,8 @@ ghost use Rattle.term_prefix.specs.Laid.{terms_at, AreLaid, HaveHeads};
 ghost use Rattle.term_prefix.specs.Private.{AddsTerm, IsCut};
 
 use crate::sealed::Sealed;
-use crate::text::{Term, compare, head_of};
+use crate::sorting::sort;
+use crate::text::{Term, head_of};
 use caseless::default_case_fold_str;
 use history_model::StampedRow;
 use rf2_values::Body;
@@ -41,17 +42,60 @@ impl Model for Postings {
 }
 
 /// A term in the default case folding.
-#[tactic(auto, using(crate::proofs::Ascii::ascii_is_folded), unfolding(history_model::specs::Queries::folded))]
+#[tactic(auto, unfolding(history_model::specs::Queries::folded))]
 fn folded(alloc: Global, term: &[u8]) -> Result<String, AllocError>
     requires { IsUtf8 term.now }
     ensures { IfOk result (λ t. string_bytes t ≡ folded term.now) }
 {
     match str::from_utf8(term) {
-        // The folding of ASCII is its lower case, which takes less time.
-        Ok(text) if text.is_ascii() => text.to_ascii_lowercase(alloc),
         Ok(text) => default_case_fold_str(alloc, text),
         Err(_) => unreachable!(),
     }
+}
+
+/// Adds the default case folding of a term in ASCII, which is its lower case, at the end of a text.
+/// An `Err` changes nothing.
+fn extend_by_lower_case(text: &mut Vec<u8>, term: &[u8]) -> Result<(), AllocError>
+    requires { IsAscii term.now }
+    ensures ok { OnOk result (text.new.items ≡ text.old.items ++ folded term.now) }
+    ensures err { OnErr result (text.new.items ≡ text.old.items) }
+{
+    let start = text.len();
+    text.extend_from_slice(term)?;
+    text[start..].make_ascii_lowercase();
+    Ok(())
+}
+
+/// Adds the folding of a term that is in ASCII. Fails if the term has 4 GiB or more. An `Err`
+/// changes nothing.
+fn push_ascii(
+    text: &mut Vec<u8>,
+    terms: &mut Vec<Term>,
+    term: &[u8],
+    row: u32,
+) -> Result<(), AllocError>
+    requires { IsAscii term.now }
+    ensures ok { OnOk result (AddsTerm text.old.items terms.old.items (folded term.now) row
+        text.new.items terms.new.items) }
+    ensures err { OnErr result
+        ((text.new.items ≡ text.old.items) × (terms.new.items ≡ terms.old.items)) }
+{
+    let Ok(len) = u32::try_from(term.len()) else {
+        return Err(AllocError);
+    };
+    terms.reserve(1)?;
+    let start = text.len();
+    extend_by_lower_case(text, term)?;
+    let head = head_of(&text[start..]);
+    let Ok(()) = terms.push(Term {
+        head,
+        start,
+        len,
+        row,
+    }) else {
+        unreachable!()
+    };
+    Ok(())
 }
 
 /// Adds a folded term. Fails if the term has 4 GiB or more. An `Err` changes nothing.
@@ -84,6 +128,27 @@ pub(crate) fn push_term(
     Ok(())
 }
 
+/// Adds the folding of a term. Fails if it has 4 GiB or more. An `Err` changes nothing.
+fn push_folded(
+    alloc: Global,
+    text: &mut Vec<u8>,
+    terms: &mut Vec<Term>,
+    term: &[u8],
+    row: u32,
+) -> Result<(), AllocError>
+    requires { IsUtf8 term.now }
+    ensures ok { OnOk result (AddsTerm text.old.items terms.old.items (folded term.now) row
+        text.new.items terms.new.items) }
+    ensures err { OnErr result
+        ((text.new.items ≡ text.old.items) × (terms.new.items ≡ terms.old.items)) }
+{
+    if term.is_ascii() {
+        return push_ascii(text, terms, term, row);
+    }
+    let folded = folded(alloc, term)?;
+    push_term(text, terms, folded.as_bytes(), row)
+}
+
 /// Keeps the first `len` terms and their text.
 fn cut(text: &mut Vec<u8>, terms: &mut Vec<Term>, len: usize)
     ensures { AreLaid 0 terms.old.items (length text.old.items)
@@ -94,14 +159,6 @@ fn cut(text: &mut Vec<u8>, terms: &mut Vec<Term>, len: usize)
         terms.truncate(len);
         text.truncate(end);
     }
-}
-
-fn sort(text: &[u8], terms: &mut Vec<Term>)
-    ensures permutation { IsPermutation terms.old.items terms.new.items }
-    ensures rising { HaveHeads text.now terms.old.items
-        → HaveHeads text.now terms.new.items × TextsRise (terms_at text.now terms.new.items) }
-{
-    terms.sort_unstable_by(|a, b| compare(text, a, text, b));
 }
 
 impl Postings {
@@ -125,8 +182,8 @@ impl Postings {
     {
         match &row.row.body {
             Body::Description(description) if row.row.active => {
-                let folded = folded(self.alloc, description.term.as_bytes())?;
-                push_term(&mut self.text, &mut self.terms, folded.as_bytes(), number)
+                let term = description.term.as_bytes();
+                push_folded(self.alloc, &mut self.text, &mut self.terms, term, number)
             }
             _ => Ok(()),
         }

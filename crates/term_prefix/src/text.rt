@@ -39,8 +39,8 @@ fn byte_at(text: &[u8], place: usize) -> u8
     if place < text.len() { text[place] } else { 0 }
 }
 
-/// The first 16 bytes as one big-endian number; a shorter text is extended by zeros.
-pub(crate) fn head_of(text: &[u8]) -> u128
+/// The first 16 bytes of a text that has fewer, extended by zeros, as one big-endian number.
+fn head_of_few(text: &[u8]) -> u128
     ensures { result ≡ head 16 text.now }
 {
     u128::from_be_bytes([
@@ -61,6 +61,16 @@ pub(crate) fn head_of(text: &[u8]) -> u128
         byte_at(text, 14),
         byte_at(text, 15),
     ])
+}
+
+/// The first 16 bytes as one big-endian number; a shorter text is extended by zeros.
+pub(crate) fn head_of(text: &[u8]) -> u128
+    ensures { result ≡ head 16 text.now }
+{
+    match text.split_first_chunk::<16>() {
+        Some((first, _)) => u128::from_be_bytes(*first),
+        None => head_of_few(text),
+    }
 }
 
 /// The order of two terms, each in the text of its list: by their heads, and by their texts if the

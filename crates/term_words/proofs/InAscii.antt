@@ -1,5 +1,5 @@
 -- Characters of ASCII: each is its own decomposition without marks, and is folded to its lower case.
-use Rattle.std.proofs.Common.{◌≡◌, ℕ, zero, suc, ◌+◌, ◌<◌, ◌||◌, false, not, cond, List, [], ◌∷◌, ◌++◌, length, get_or, map, refl, sym, ap, subst, ◌∙◌, arith, append-nil, take}
+use Rattle.std.proofs.Common.{◌≡◌, ℕ, zero, suc, ◌+◌, ◌<◌, ◌||◌, Bool, true, false, MatchBool, not, cond, List, [], ◌∷◌, ◌++◌, length, get_or, map, refl, sym, ap, subst, ◌∙◌, arith, append-nil, take}
 use Rattle.std.specs.Prelude.{encode_utf8, chars, flat_map, IsAscii}
 use Rattle.std.specs.Char.{to_ascii_lowercase, is_ascii_alphanumeric}
 use Rattle.std.specs.List.{filter}
@@ -24,6 +24,10 @@ use Rattle.word_model.specs.Words.{is_of_word, is_no_mark, unmarked, plain}
 use Rattle.term_words.specs.declared.keys.KeyAt.{KeyAt}
 use Rattle.term_words.specs.Private.{Follows}
 use Rattle.term_words.proofs.Runs.{no_mark, follows_both}
+
+-- what holds where a test passes
+pub where_true : (P Q : Type 0) (b : Bool) → MatchBool b P Q → b ≡ true → P
+where_true P Q b h e = subst (λ x. MatchBool x P Q) e h
 
 pub of_word : (c : ℕ) → c < 128 → is_ascii_alphanumeric c ≡ is_of_word c
 of_word c low = is_alphanumeric_ascii c low

@@ -22,16 +22,30 @@ fn mixed(hash: u64, number: u64) -> u64 {
         .rotate_left(29)
 }
 
+/// Up to seven bytes as one number, with their count.
+fn number_of_few(bytes: &[u8]) -> u64 {
+    let mut number = bytes.len() as u64;
+    for byte in bytes {
+        number = (number << 8) | u64::from(*byte);
+    }
+    number
+}
+
+/// A hash of bytes, eight of which are taken at a step.
+fn hash_of_bytes(bytes: &[u8]) -> u64 {
+    let mut hash = 2;
+    let mut rest = bytes;
+    while let Some((eight, behind)) = rest.split_first_chunk::<8>() {
+        hash = mixed(hash, u64::from_le_bytes(*eight));
+        rest = behind;
+    }
+    mixed(mixed(hash, number_of_few(rest)), 0)
+}
+
 fn hash_of(key: Key<'_>) -> u64 {
     match key {
         Key::Measure { length, type_id } => mixed(mixed(1, u64::from(length)), type_id),
-        Key::Word(word) => {
-            let mut hash = 2;
-            for byte in word {
-                hash = mixed(hash, u64::from(*byte));
-            }
-            mixed(hash, 0)
-        }
+        Key::Word(word) => hash_of_bytes(word),
     }
 }
 
@@ -40,8 +54,10 @@ fn slot_of(slots: &[u32], hash: u64, step: usize) -> usize
     requires { 0 < length slots.now }
     ensures { result < length slots.now }
 {
-    let place = (hash >> 16) as usize;
-    place.wrapping_add(step) % slots.len()
+    let place = ((hash >> 16) as usize).wrapping_add(step);
+    // The tables that are made here have a power of two of slots.
+    let slot = place & (slots.len() - 1);
+    if slot < slots.len() { slot } else { 0 }
 }
 
 /// Whether the key has this number.

@@ -128,9 +128,10 @@ fn post_words(
     pushed: &mut Vec<Pushed>,
     read: &mut Keys,
     hints: &mut Vec<Hint>,
-    term: &str,
+    term: &[u8],
     row: u32,
 ) -> Result<(), AllocError>
+    requires { IsUtf8 term.now }
     ensures ok { ArePushed text.old.items keys.old.items pushed.old.items
         → OnOk result (IsPostedWith text.old.items keys.old.items pushed.old.items
         (map (keyed row) (map word_key (words term.now)))
@@ -155,10 +156,17 @@ fn post_words(
 }
 
 /// How many characters a term has.
-fn count_of(term: &str) -> usize
+fn count_of(term: &[u8]) -> usize
+    requires { IsUtf8 term.now }
     ensures { result ≡ length (chars term.now) }
 {
-    term.chars().count()
+    if term.is_ascii() {
+        return term.len();
+    }
+    match str::from_utf8(term) {
+        Ok(text) => text.chars().count(),
+        Err(_) => unreachable!(),
+    }
 }
 
 /// Adds the postings of a description. An `Err` may leave some of them.
@@ -170,10 +178,11 @@ fn post_all(
     pushed: &mut Vec<Pushed>,
     read: &mut Keys,
     hints: &mut Vec<Hint>,
-    term: &str,
+    term: &[u8],
     type_id: u64,
     row: u32,
 ) -> Result<(), AllocError>
+    requires { IsUtf8 term.now }
     ensures ok { ArePushed text.old.items keys.old.items pushed.old.items
         → OnOk result (IsPostedWith text.old.items keys.old.items pushed.old.items
         (map (keyed row) (term_keys type_id term.now))
@@ -200,10 +209,11 @@ fn post_term(
     pushed: &mut Vec<Pushed>,
     read: &mut Keys,
     hints: &mut Vec<Hint>,
-    term: &str,
+    term: &[u8],
     type_id: u64,
     row: u32,
 ) -> Result<(), AllocError>
+    requires { IsUtf8 term.now }
     ensures ok { ArePushed text.old.items keys.old.items pushed.old.items
         → OnOk result (IsPostedWith text.old.items keys.old.items pushed.old.items
         (map (keyed row) (term_keys type_id term.now))
@@ -221,17 +231,6 @@ fn post_term(
             pushed.truncate(len);
             Err(error)
         }
-    }
-}
-
-/// A term as a text.
-fn as_text(term: &[u8]) -> &str
-    requires { IsUtf8 term.now }
-    ensures { result.now ≡ term.now }
-{
-    match str::from_utf8(term) {
-        Ok(text) => text,
-        Err(_) => unreachable!(),
     }
 }
 
@@ -260,7 +259,7 @@ impl Postings {
     {
         match &row.row.body {
             Body::Description(description) if row.row.active => {
-                let term = as_text(description.term.as_bytes());
+                let term = description.term.as_bytes();
                 let type_id = description.type_id.value();
                 post_term(
                     self.alloc,

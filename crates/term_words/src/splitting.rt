@@ -3,6 +3,7 @@
 ghost use Rattle.std.specs.Prelude.{◌≡◌, ◌++◌, ◌∷◌, [], ℕ, List, length, map, flat_map, chars};
 ghost use Rattle.std.specs.Prelude.{IfOk, OnOk, slice_get, encode_utf8, ◌<◌, Some, IsAscii};
 ghost use Rattle.std.specs.Char.{to_ascii_lowercase};
+ghost use Rattle.std.specs.Str.{IsUtf8};
 ghost use Rattle.std.specs.List.{filter};
 ghost use Rattle.word_model.specs.Words.{is_no_mark, unmarked, plain, words};
 ghost use Rattle.term_words.specs.Posted.{word_key};
@@ -182,8 +183,8 @@ fn feed_all(
     Ok(next)
 }
 
-/// Goes on with all characters of a term.
-fn feed_term(
+/// Goes on with all characters of a term, which may be any.
+fn feed_any(
     alloc: Global,
     text: &mut Vec<u8>,
     keys: &mut Vec<KeyAt>,
@@ -193,12 +194,30 @@ fn feed_term(
     ensures { IfOk result (λ next. Follows text.old.items keys.old.items start (plain term.now)
         text.new.items keys.new.items next) }
 {
-    // The folding of ASCII is its lower case, which takes less time.
-    if term.is_ascii() {
-        return feed_all_ascii(text, keys, start, term.as_bytes());
-    }
     let folded = default_case_fold_str(alloc, term)?;
     feed_all(text, keys, start, folded.as_str())
+}
+
+/// Goes on with all characters of a term.
+fn feed_term(
+    alloc: Global,
+    text: &mut Vec<u8>,
+    keys: &mut Vec<KeyAt>,
+    start: usize,
+    term: &[u8],
+) -> Result<usize, AllocError>
+    requires { IsUtf8 term.now }
+    ensures { IfOk result (λ next. Follows text.old.items keys.old.items start (plain term.now)
+        text.new.items keys.new.items next) }
+{
+    // The folding of ASCII is its lower case, which takes less time.
+    if term.is_ascii() {
+        return feed_all_ascii(text, keys, start, term);
+    }
+    match str::from_utf8(term) {
+        Ok(term) => feed_any(alloc, text, keys, start, term),
+        Err(_) => unreachable!(),
+    }
 }
 
 /// Adds the words of a text.
@@ -206,8 +225,9 @@ fn add_words(
     alloc: Global,
     text: &mut Vec<u8>,
     keys: &mut Vec<KeyAt>,
-    term: &str,
+    term: &[u8],
 ) -> Result<(), AllocError>
+    requires { IsUtf8 term.now }
     ensures { OnOk result (EachEndsWithin (length text.old.items) keys.old.items
         → (keys_in text.new.items keys.new.items
         ≡ keys_in text.old.items keys.old.items ++ map word_key (words term.now))
@@ -231,7 +251,8 @@ impl Keys {
     }
 
     /// Replaces the keys by the words of a text. After an `Err` there are none.
-    pub(crate) fn set_to(&mut self, alloc: Global, term: &str) -> Result<(), AllocError>
+    pub(crate) fn set_to(&mut self, alloc: Global, term: &[u8]) -> Result<(), AllocError>
+        requires { IsUtf8 term.now }
         ensures { OnOk result (self.new ≡ map word_key (words term.now)) }
     {
         self.text.clear();
@@ -266,6 +287,6 @@ pub(crate) fn words_of(alloc: Global, term: &str) -> Result<Keys, AllocError>
     ensures { IfOk result (λ keys. keys ≡ map word_key (words term.now)) }
 {
     let mut keys = Keys::new(alloc);
-    keys.set_to(alloc, term)?;
+    keys.set_to(alloc, term.as_bytes())?;
     Ok(keys)
 }

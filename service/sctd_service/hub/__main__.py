@@ -2,7 +2,7 @@
 
 sctd-hub --program SCTD --store FILE --releases DIR [--socket PATH]
          [--questions PATH [--group NAME]] [--merge-above N] [--connections-a-user N]
-         [--without-words] [--read-only | --make-store] [--config FILE]
+         [--without-words] [--import-unchecked] [--read-only | --make-store] [--config FILE]
 sctd-hub imports --store FILE [--program SCTD] [--to-repeat]
 
 The hub starts `sctd serve` and listens on the sockets, of which there has to be one. Each
@@ -21,8 +21,10 @@ again with each import, before that is answered. `METRICS` is answered with what
 each line of Prometheus' text as a row. On the socket of `--socket`, `BACKUP PATH` copies the store
 while questions are answered, and `CHECK NAME` and `VERIFY NAME` are carried out on a copy,
 FILE.checked: what the import of a release would be answered, and in what the store differs from the
-Snapshot of a package. When more than N segments stand (100 if not said), the hub merges in short
-steps between the clients' lines; where the store is full, an import waits for a merge.
+Snapshot of a package. Before an import the release is checked in the same way, for what is told of
+it, whatever the check is answered; with `--import-unchecked` it isn't. When more than N segments
+stand (100 if not said), the hub merges in short steps between the clients' lines; where the store
+is full, an import waits for a merge.
 
 Once the store is open, the hub prints `OK ready` (and tells systemd, where that started it). An
 opening that is refused ends the hub with the `ERR` line and the program's status. The hub ends with
@@ -46,7 +48,9 @@ Without a hub, `sctd-hub imports --store FILE` prints the list, and with `--to-r
 names of the releases whose imports the store doesn't have.
 
 With `--read-only` the program only reads FILE, which others may do too, as a second hub on the
-copy that a reader has; there is only the socket of `--questions` then.
+copy that a reader has. What would change the store is no command then, also on the socket of
+`--socket`, which still takes BACKUP, and CHECK and VERIFY, on a copy whose name goes on behind
+FILE.checked.
 
 With `--without-words` the program keeps no words of terms: it opens in less time and memory, and
 answers WORDS, and with it each search of a gateway, `ERR 16 NotKept`.
@@ -66,11 +70,13 @@ import resource
 import signal
 import socket
 import sys
+import zlib
 from typing import Any
 
 from .. import settings, sockets
 from ..logs import log, tell
 from . import imports, opening
+from .checking import COPY_ENDING
 from .clients import Client, Hub
 from .program import Program, ProgramEndedError
 from .store import MOST_SEGMENTS, Store
@@ -167,7 +173,7 @@ async def serve(options: argparse.Namespace) -> int:
         if not all(is_clear(path) for path in paths):
             return 1
         store = Store(program, status, options.store, options.program, options.releases,
-                      options.merge_above)
+                      options.merge_above, not options.import_unchecked, copy_of(options))
         await store.list.begin(program, store.imports, not options.read_only)
         hub = Hub(program, store, options.connections_a_user)
         listeners = [Listener(options.socket, True)] if options.socket else []
@@ -176,6 +182,16 @@ async def serve(options: argparse.Namespace) -> int:
         return await serve_clients(hub, listeners)
     finally:
         await program.stop()
+
+
+def copy_of(options: argparse.Namespace) -> str:
+    """Where a copy is made that a line is carried out on: beside the store. Several hubs may only
+    read one, of which each has a socket of its own."""
+    path = str(options.store) + COPY_ENDING
+    if not options.read_only:
+        return path
+    socket_path = os.path.abspath(options.socket or options.questions)
+    return "%s-%08x" % (path, zlib.crc32(os.fsencode(socket_path)))
 
 
 def group_of(name: str) -> int:
@@ -215,6 +231,8 @@ def options_of(words: list[str]) -> argparse.Namespace:
                         metavar="N", help="how many a user may have on the socket of --questions")
     parser.add_argument("--without-words", action="store_true",
                         help="keeps no words of terms, so that WORDS is refused")
+    parser.add_argument("--import-unchecked", action="store_true",
+                        help="doesn't check releases on a copy of the store before their imports")
     parser.add_argument("--read-only", action="store_true",
                         help="only reads the store, so that others may read it too")
     parser.add_argument("--make-store", action="store_true",
@@ -222,10 +240,10 @@ def options_of(words: list[str]) -> argparse.Namespace:
     options = settings.parsed(parser, "hub", words)
     if not options.socket and not options.questions:
         parser.error("--socket or --questions has to be given")
-    if options.read_only and (options.socket or options.make_store):
-        parser.error("--read-only goes with --questions alone")
+    if options.read_only and options.make_store:
+        parser.error("--read-only and --make-store don't go together")
     if options.read_only:
-        options.merge_above = MOST_SEGMENTS
+        options.merge_above, options.import_unchecked = MOST_SEGMENTS, True
     if options.socket == options.questions:
         parser.error("--socket and --questions are the same path")
     if options.group is not None and not options.questions:

@@ -382,7 +382,7 @@ class Hub:
 
     async def stop(self) -> None:
         """Ends the program after the lines that it answers, and then the clients."""
-        self.store.is_stopped.set()
+        self.store.stop()
         await self.program.stop()
         await self.store.stop_listing()
         for client in list(self.clients):

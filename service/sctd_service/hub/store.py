@@ -4,13 +4,16 @@ own, copies."""
 import asyncio
 import contextlib
 import os
+import shutil
 import threading
 import time
-from collections.abc import Callable
+from collections import Counter
+from collections.abc import Callable, Iterable, Sequence
 
 from ..logs import log, pass_on, tell
 from ..protocol import DAMAGED, REFUSED, REPLY, last_line
-from .checking import COPY_ENDING, MOST_NOTES, TASKS, carried_out, is_name, with_notes
+from .checking import (
+    LISTED, LONGEST_CHECK, TASKS, UNCOMPARED, carried_out, is_name, known_by, with_notes)
 from .imports import ENDING, FIRST_LINE, NOTHING, Hashing, ImportList, sync_folder
 from .lines import BACKUP, first_word, shown, without_cr
 from .program import HUB_SESSION, Program, ProgramEndedError
@@ -25,6 +28,9 @@ LOGGED = (IMPORT, *TASKS, b"PUBLISH")
 LOGGED_REFUSED = (b"MERGE", b"STEP", b"ABANDON", b"TRIM")
 # How many bytes of a copy are written at a time.
 COPY_SIZE = 1 << 20
+# So many times the store's bytes have to be free before an import for its check: for the copy, and
+# for a merge beside it.
+ROOM = 2
 
 
 class Refused(Exception):
@@ -34,33 +40,39 @@ class Refused(Exception):
 class Store:
     """What is done with the store one after the other: changes, merges of the hub's own, copies.
     `state` is what STATUS was answered last, `imports` how many imports there are, and `on_import`
-    is called before one is answered."""
+    is called before one is answered. A release is checked before its import if `checks_imports`,
+    on a copy whose path is `copy`."""
 
     def __init__(self, program: Program, status: bytes, path: str, command: str,
-                 releases: str, merge_above: int) -> None:
+                 releases: str, merge_above: int, checks_imports: bool, copy: str) -> None:
         self.program, self.path, self.command, self.releases = program, path, command, releases
         self.state = status.split()
         self.imports = int(self.state[1])
         self.on_import: Callable[[], None] = lambda: None
-        self.merge_above = merge_above
+        self.merge_above, self.checks_imports, self.copy = merge_above, checks_imports, copy
         # Which file the path has named since the program opened it.
         self.file = os.stat(path)
         # Held by a line that may change the store, and while the store is copied.
         self.changes = asyncio.Lock()
-        # Held from before an import, while there is room made for it, to its reply.
+        # Held by an import from before its check to its reply: each is checked on a copy that has
+        # those before it.
+        self.turns = asyncio.Lock()
+        # Held while a release is checked on a copy of the store: there is one copy at a time.
+        self.checks = asyncio.Lock()
+        # Held from before an import, while there is room made for it, to its reply, and while a
+        # copy is made; not while a release is checked, so that no backup waits for that.
         self.imports_lock = asyncio.Lock()
         # Held by a merge of the hub's own. Who waits for several of these has them in the order
-        # imports, merges, changes.
+        # turns, checks, imports, merges, changes.
         self.merges = asyncio.Lock()
         # There may be more segments than wanted. (It is not set at the start: a merge that finds
         # no space ends the hub, and the next one would do so again before it answered anything.)
         self.may_merge = asyncio.Event()
         # The client's session that has begun a merge.
         self.merging: int | None = None
-        # Held while a release is checked on a copy of the store.
-        self.checks = asyncio.Lock()
-        # Set where the hub ends: no copy is made any longer.
+        # Set where the hub ends: no copy is made any longer, and what goes on on one is ended.
         self.is_stopped = threading.Event()
+        self.on_copy: "asyncio.Task[tuple[bytes, bytes]] | None" = None
         # What is known of the imports, and the release whose files are hashed.
         self.list = ImportList(path)
         self.hashing: Hashing | None = None
@@ -79,74 +91,120 @@ class Store:
         return reply
 
     async def imported(self, session: int, line: bytes, user: str) -> bytes:
-        """The reply to an import, with what the program told of it. Room is made for it first."""
-        async with self.imports_lock:
-            await self.make_room()
+        """The reply to an import, with what is told of the release. It is checked before, and room
+        is made for it; the digest of its files is computed meanwhile."""
+        async with self.turns:
             name = name_in(line)
             self.hashing = Hashing(self.releases, name)
             digest = asyncio.get_running_loop().run_in_executor(None, self.hashing.digest)
             try:
-                reply, notes = await self.asked_and_told(session, line, user)
-                if not reply.startswith(REFUSED):
-                    if (found := await digest) == NOTHING:
-                        log("%s: no digest of its files: %s" % (shown(name), self.hashing.why))
-                    await self.list.add(reply, name, found, user)
-                return with_notes(notes, reply)
+                expected, told = await self.foretold(session, line, user)
+                async with self.imports_lock:
+                    await self.make_room()
+                    reply, more = await self.asked_and_told(session, line, user, told)
+                    if not reply.startswith(REFUSED):
+                        if (found := await digest) == NOTHING:
+                            log("%s: no digest of its files: %s" % (shown(name), self.hashing.why))
+                        await self.list.add(reply, name, found, user)
             finally:
                 self.hashing.is_stopped.set()
                 self.hashing = None
+        if expected and expected != reply and not reply.startswith(REFUSED):
+            more.append(uncompared(name, "its check was answered %s" % shown(last_line(expected))))
+        return with_notes([*told, *more], reply)
 
-    async def asked_and_told(self, session: int, line: bytes, user: str) -> (
-            tuple[bytes, list[bytes]]):
-        """The reply to a line for a release, and what the program told of it."""
+    async def foretold(self, session: int, line: bytes, user: str) -> tuple[bytes, list[bytes]]:
+        """What an import would be answered, and what is told of its release, by another program on
+        a copy of the store. Whatever comes of that, the import is made as if nobody had asked."""
+        name, why = name_in(line), "its check ended without a reply"
+        if not self.checks_imports or not is_name(name):
+            return b"", []
+        try:
+            async with self.checks:
+                said, told = await self.by_another(
+                    session, CHECK + line[len(IMPORT):], user, ROOM)
+        except Refused as refused:
+            said, told, why = b"", [], "no copy: %s" % refused
+        return said, told if said else [*told, uncompared(name, why)]
+
+    async def asked_and_told(self, session: int, line: bytes, user: str,
+                             before: Iterable[bytes] = ()) -> tuple[bytes, list[bytes]]:
+        """The reply to a line for a release, and what the program told of it that wasn't told
+        before."""
         async with self.changes:
-            self.program.notes.taken()
+            notes = self.program.notes
+            notes.taken()
+            notes.known = Counter(map(known_by, before))
             reply = await self.program.ask(session, line, user, alone=True)
-            return reply, self.program.notes.taken()
+            return reply, notes.taken()
 
     async def on_a_copy(self, session: int, line: bytes, user: str) -> bytes:
         """The reply to a line for a release, with what is told of it: by another program on a copy
         of the store, so that no other line waits for it, or by this one where there can be no copy.
         """
-        word, name = first_word(line), name_in(line)
-        async with self.checks, contextlib.AsyncExitStack() as until_done:
-            async with self.imports_lock:
-                await self.make_room()
-                if not is_name(name):
-                    # The program refuses it, as it does for an import.
-                    return await self.served(session, CHECK + line[len(word):], user)
-                try:
-                    copy = await self.new_copy()
-                except Refused as why:
-                    log("no copy to check on: %s" % why)
-                    if TASKS[word].is_served:
-                        return await self.served(session, line, user)
-                    return b"ERR hub %s no copy: %s\n" % (word.title(), str(why).encode())
-            until_done.callback(copy.end)
-            began = time.monotonic()
-            said, told = await carried_out(
-                self.command, *TASKS[word].words, "--store", copy.path, "--releases",
-                self.releases, "--", name)
-            self.program.metrics.took(b"%d %s" % (session, line), time.monotonic() - began)
-        pass_on(told)
-        if not REPLY.fullmatch(said):
-            said = b"ERR hub %s the program ended\n" % word.title()
-        if said.startswith(DAMAGED):
-            self.program.note_damage(shown(without_cr(line)), user, said[:-1])
-        return with_notes(told.splitlines()[-MOST_NOTES:], said)
+        word = first_word(line)
+        async with self.checks:
+            if not is_name(task_of(line)[1]):
+                # The program refuses it, as it does for an import.
+                return await self.served(session, CHECK + line[len(word):], user)
+            try:
+                said, told = await self.by_another(session, line, user)
+            except Refused as why:
+                log("no copy to check on: %s" % why)
+                if TASKS[word].is_served:
+                    return await self.served(session, line, user)
+                return b"ERR hub %s no copy: %s\n" % (word.title(), str(why).encode())
+        return with_notes(told, said or b"ERR hub %s the program ended\n" % word.title())
 
     async def served(self, session: int, line: bytes, user: str) -> bytes:
         """The reply of the program that serves the store, with what it told."""
-        reply, notes = await self.asked_and_told(session, line, user)
+        async with self.imports_lock:
+            await self.make_room()
+            reply, notes = await self.asked_and_told(session, line, user)
         return with_notes(notes, reply)
 
-    async def new_copy(self) -> "NewFile":
-        """A copy of the store, for one line for a release."""
-        path = self.path + COPY_ENDING
+    async def by_another(self, session: int, line: bytes, user: str,
+                         room: int = 0) -> tuple[bytes, list[bytes]]:
+        """The reply to a line for a release, which is nothing where there is none, and what is told
+        of it, by another program on a copy of the store, if so many copies have room."""
+        async with self.imports_lock:
+            await self.make_room()
+            copy = await self.new_copy(room)
+        (words, name), began = task_of(line), time.monotonic()
+        try:
+            said, told = await self.until_stopped(
+                self.command, *words, "--store", copy.path, "--releases", self.releases, "--", name)
+        finally:
+            copy.end()
+        self.program.metrics.took(b"%d %s" % (session, line), time.monotonic() - began)
+        lines = told.splitlines()
+        pass_on(b"".join(line + b"\n" for line in lines))
+        if not REPLY.fullmatch(said):
+            said = b""
+        if said.startswith(DAMAGED):
+            self.program.note_damage(shown(without_cr(line)), user, said[:-1])
+        return said, lines
+
+    async def until_stopped(self, *words: str | bytes) -> tuple[bytes, bytes]:
+        """What a process says; nothing if it takes too long. Where the hub ends it is ended."""
+        self.on_copy = task = asyncio.create_task(carried_out(*words))
+        try:
+            await asyncio.wait([task], timeout=LONGEST_CHECK)
+        finally:
+            task.cancel()
+            await asyncio.wait([task])
+        if self.is_stopped.is_set():
+            raise ProgramEndedError(1)
+        return (b"", b"") if task.cancelled() else task.result()
+
+    async def new_copy(self, room: int) -> "NewFile":
+        """A copy of the store, for one line for a release, if so many have room on the disk."""
         with contextlib.suppress(OSError):
-            os.unlink(path)  # A hub that was killed may have left one.
+            os.unlink(self.copy)  # A hub that was killed may have left one.
+        if free_beside(self.copy) < room * self.size():
+            raise Refused("too little room on the disk")
         async with self.changes:
-            return await asyncio.to_thread(filled, path, self.fill, is_kept=False)
+            return await asyncio.to_thread(filled, self.copy, self.fill, is_kept=False)
 
     def fill(self, made: "NewFile") -> None:
         """Copies the store's file into a new one, in a thread of its own."""
@@ -283,17 +341,38 @@ class Store:
                 raise
         return b" ".join(wanted)
 
+    def stop(self) -> None:
+        """Makes no copy any longer, and ends what is carried out on one."""
+        self.is_stopped.set()
+        if self.on_copy is not None:
+            self.on_copy.cancel()
+
     async def stop_listing(self) -> None:
         """Waits no longer for a digest, and for room on the disk."""
         if self.hashing is not None:
             self.hashing.is_stopped.set()
-        elif self.list.unwritten:
-            await self.list.write()
+        async with self.imports_lock:
+            if self.list.unwritten:
+                await self.list.write()
+
+
+def uncompared(name: bytes, why: str) -> bytes:
+    """Logs that a release isn't compared with the store before its import, and says it."""
+    log("%s: %s: %s" % (shown(name), UNCOMPARED, why))
+    return b"hub: %s: %s" % (UNCOMPARED.encode(), why.encode())
 
 
 def name_in(line: bytes) -> bytes:
     """The name that stands behind a line's first word."""
     return without_cr(line).partition(b" ")[2]
+
+
+def task_of(line: bytes) -> tuple[Sequence[str | bytes], bytes]:
+    """The words of the program's task that carries out a line, and the name of its release."""
+    task, name = TASKS[first_word(line)], name_in(line)
+    if task.has_list and (listed := LISTED.fullmatch(name)):
+        return (*task.words, "--list", listed[2]), listed[1]
+    return task.words, name
 
 
 def path_of(name: bytes) -> str:
@@ -306,6 +385,14 @@ def path_of(name: bytes) -> str:
     if not os.path.isabs(path):
         raise Refused("the path doesn't begin with /")
     return path
+
+
+def free_beside(path: str) -> int:
+    """How many bytes are free on the disk of a file."""
+    try:
+        return shutil.disk_usage(os.path.dirname(path) or ".").free
+    except OSError as why:
+        raise Refused(why.strerror or str(why)) from None
 
 
 class NewFile:

@@ -1,34 +1,16 @@
-use Rattle.std.proofs.Common.{◌≡◌, refl, subst}
-use Rattle.line_server.specs.StateValue.{StateValue, fresh}
-use Rattle.line_server.specs.Replies.{Server, server}
-use Rattle.line_server.specs.Sources.{SourceView}
-use Rattle.line_server.specs.Turns.{Turn, IsTurn}
-use Rattle.disk_model.specs.View.{DiskView}
-use Rattle.history_store.specs.StoreValue.{StoreValue}
+use Rattle.std.proofs.Common.{refl}
 use Rattle.command_line.proofs.answering.answer_read.Goals as goal
 
--- a line that was answered from a state that is the fresh one was answered from the fresh one
-from_fresh : {D : Type 0} → (source : SourceView) (view : D → DiskView) (turn : Turn)
-    (store : StoreValue D) (new : Server D) (state : StateValue) → state ≡ fresh
-    → IsTurn source view (server state store) turn new
-    → IsTurn source view (server fresh store) turn new
-from_fresh source view turn store new state is answered =
-    subst (λ (s : StateValue). IsTurn source view (server s store) turn new) is answered
-
-pub carry_out-outcome-requires-clause-read : goal.carry_out-outcome-requires-clause-read
-carry_out-outcome-requires-clause-read g c = c.requires
+pub carried_out-outcome-requires : goal.carried_out-outcome-requires
+carried_out-outcome-requires g c = c.requires
 
 pub returns : goal.returns
 returns g c = λ line reads.
-    let t = c.carry_out-outcome.ensures.turn line reads in
+    let done = c.carried_out-outcome.ensures line reads in
+    let t = done.turn in
     record {
-      state = c.carry_out-outcome.new.state;
-      after = c.carry_out-outcome.new.store;
-      told = (
-        t.0,
-        t.1,
-        from_fresh _ _ _ _ _ _ c.new-state.ensures.value t.2,
-        c.tell.ensures t.0.outcome t.3,
-      );
+      state = done.state;
+      after = c.carried_out-outcome.new.store;
+      told = (t.0, t.1, t.2, c.tell.ensures t.0.outcome t.3);
       left_so = refl;
     }

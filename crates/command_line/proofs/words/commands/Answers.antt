@@ -3,7 +3,7 @@ use Rattle.std.proofs.lemmas.Result.{IfOk-weaker}
 use Rattle.clap.specs.Simple.{App, with_subcommand}
 use Rattle.clap.specs.Built.{AddsSubcommand}
 use Rattle.clap.specs.declared.builder.command.Command.{Command}
-use Rattle.command_line.specs.Words.{empty_program, init_command, import_command, serve_command, status_command, merge_command, copy_command, digest_command, verify_command, demo_command}
+use Rattle.command_line.specs.Words.{empty_program, init_command, import_command, serve_command, status_command, merge_command, copy_command, digest_command, verify_command, prepare_command, demo_command}
 use Rattle.command_line.specs.Private.{IsCommand}
 use Rattle.command_line.proofs.words.commands.Goals as goal
 
@@ -24,4 +24,5 @@ returns c =
     let six = added _ c.in_ok-copy.field-0 c.in_ok-subcommand-6.field-0 _ copy_command five c.in_ok-copy.ensures c.in_ok-subcommand-6.ensures in
     let seven = added _ c.in_ok-digest.field-0 c.in_ok-subcommand-7.field-0 _ digest_command six c.in_ok-digest.ensures c.in_ok-subcommand-7.ensures in
     let eight = added _ c.in_ok-verify.field-0 c.in_ok-subcommand-8.field-0 _ verify_command seven c.in_ok-verify.ensures c.in_ok-subcommand-8.ensures in
-    IfOk-weaker c.subcommand-9.result _ _ (λ r h. (own.0, own.1, added c.in_ok-subcommand-8.field-0 c.demo.result r _ demo_command eight c.demo.ensures h)) c.subcommand-9.ensures
+    let nine = added _ c.in_ok-prepare.field-0 c.in_ok-subcommand-9.field-0 _ prepare_command eight c.in_ok-prepare.ensures c.in_ok-subcommand-9.ensures in
+    IfOk-weaker c.subcommand-10.result _ _ (λ r h. (own.0, own.1, added c.in_ok-subcommand-9.field-0 c.demo.result r _ demo_command nine c.demo.ensures h)) c.subcommand-10.ensures

@@ -14,11 +14,11 @@ pub returns-in-Description-clause-ok : goal.returns-in-Description-clause-ok
 returns-in-Description-clause-ok c =
     let self = c.self.inside in
     let row = c.args.row.now.row in
-    let is = posted_is row c.in-Description.description c.args.number c.value-type_id.result c.as_text-term.result.now
+    let is = posted_is row c.in-Description.description c.args.number c.value-type_id.result c.as_bytes-term.result.now
     (ap (λ (s : StampedRow). s.row.active) (sym c.row.view_is) ∙ c.if-row.true)
     (ap (λ (s : StampedRow). s.row.body) (sym c.row.view_is) ∙ c.in-Description.is)
     c.value-type_id.ensures.value
-    (c.as_text-term.ensures ∙ c.as_bytes.ensures.bytes) in
+    c.as_bytes-term.ensures.bytes in
     on_ok_weaker c.post_term.result (λ w. seen_after self.text.items c.post_term.new.text.items self.keys.items c.post_term.new.keys.items self.pushed.items c.post_term.new.pushed.items _ _ c.args.self.now c.self.view_is is w) (c.post_term.ensures.ok c.self.invariant)
 
 pub returns-in-Description-clause-err : goal.returns-in-Description-clause-err
