@@ -13,7 +13,7 @@ ghost use Rattle.index_answers.specs.Keys.{is_put_in_order};
 ghost use Rattle.index_answers.specs.Words.{lacks_words};
 
 use as_of_index::{AsOf, Index, ReadFault, RowReader};
-use links::{about, called, members, replacements, replaces, timeline, values};
+use links::{about, active_members, called, members, replacements, replaces, timeline, values};
 use question_model::RowQuestion;
 use rf2_values::{Kind, Row, Sctid};
 use segment_index::StoreIndex;
@@ -161,6 +161,15 @@ pub fn select<R: RowReader>(
         } => {
             let as_of = AsOf { date, pin };
             Some(members(alloc, links, places, reader, refset, as_of, after, limit))
+        }
+        RowQuestion::ActiveMembers {
+            refset,
+            date,
+            after,
+            limit,
+        } => {
+            let as_of = AsOf { date, pin };
+            Some(active_members(alloc, links, places, reader, refset, as_of, after, limit))
         }
         RowQuestion::Values {
             refset,

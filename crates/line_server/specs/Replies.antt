@@ -27,7 +27,7 @@ use Rattle.history_store.specs.MergeAnswers.{IsAbandoningOf, IsTrimmingOf}
 use Rattle.history_store.specs.Prepared.{scope_of}
 use Rattle.line_commands.specs.declared.unread.Unread.{Unread}
 use Rattle.question_model.specs.Questions.{RowQuestion, Get, History, About, Timeline, Page, Delta}
-use Rattle.question_model.specs.Questions.{Members, Values, Called, AllRows}
+use Rattle.question_model.specs.Questions.{Members, ActiveMembers, Values, Called, AllRows}
 use Rattle.question_model.specs.Questions.{Question, ForRows, ForIds, Dates as AskDates, Digest}
 use Rattle.question_model.specs.Questions.{Receipt as AskReceipt, Added}
 use Rattle.question_model.specs.Wanted.{rows_for, AreIdsFor}
@@ -353,6 +353,7 @@ AsksMembers (Timeline kind id) = kind ≡ kinds.Member
 AsksMembers (Page kind date after limit) = kind ≡ kinds.Member
 AsksMembers (Delta kind from date after limit) = kind ≡ kinds.Member
 AsksMembers (Members refset date after limit) = Unit {0}
+AsksMembers (ActiveMembers refset date after limit) = Unit {0}
 AsksMembers (Values refset date after limit) = Unit {0}
 AsksMembers (Called concept date refset) = Unit {0}
 AsksMembers (AllRows kind after limit) = kind ≡ kinds.Member

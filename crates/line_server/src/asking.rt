@@ -35,9 +35,10 @@ fn asks_members(question: &RowQuestion<'_>) -> bool
         | RowQuestion::Page { kind, .. }
         | RowQuestion::Delta { kind, .. }
         | RowQuestion::AllRows { kind, .. } => kind == Kind::Member,
-        RowQuestion::Members { .. } | RowQuestion::Values { .. } | RowQuestion::Called { .. } => {
-            true
-        }
+        RowQuestion::Members { .. }
+        | RowQuestion::ActiveMembers { .. }
+        | RowQuestion::Values { .. }
+        | RowQuestion::Called { .. } => true,
         _ => false,
     }
 }

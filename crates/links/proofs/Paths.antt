@@ -211,6 +211,9 @@ module _ (refset : ℕ) where
   pub path_of_values : (after last : Option ℕ) → IsPath (is_value_between after last) (members_with refset (seconds.Between after last) true)
   path_of_values after last row = value_path after last row.active row.body
 
+  pub path_of_active : IsPath (λ row. row.active && is_member_of refset row.body) (members_with refset (seconds.Between None None) true)
+  path_of_active row = and-true (row.active && is_member_of refset row.body) ∙ path_of_values None None row
+
   about_path : (component : ℕ) (active : Bool) (b : Body) → (active && is_member_of refset b && member_component b == component) ≡ list_any (is_wanted (members_with refset (seconds.Only component) true)) (keys_of_body active b)
   about_path component active (body.Concept c) = none_of_three active (0 == component)
   about_path component active (body.Description d) = none_of_three active (0 == component)

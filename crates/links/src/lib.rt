@@ -29,7 +29,7 @@ pub use ever_about::timeline;
 pub use hierarchy::children;
 pub use incoming::sources;
 pub use languages::called;
-pub use member_pages::members;
+pub use member_pages::{active_members, members};
 pub use merging::Merging;
 pub use posting::{Posting, Tag};
 pub use postings::{Postings, Sealed, Subject};

@@ -1,22 +1,23 @@
 //! The members of a reference set in pages, by their ids.
 
-ghost use Rattle.std.specs.Prelude.{List, IfOk};
+ghost use Rattle.std.specs.Prelude.{Bool, List, IfOk, take};
+ghost use Rattle.rf2_values.specs.Row.{RowValue};
 ghost use Rattle.history_model.specs.declared.stamped.StampedRow.{StampedRow};
 ghost use Rattle.as_of_index.specs.Current.{rows_seen};
-ghost use Rattle.history_model.specs.Queries.{members};
+ghost use Rattle.history_model.specs.Queries.{members, active_members};
 ghost use Rattle.as_of_index.specs.Reader.{IsRowsRead};
 ghost use Rattle.as_of_index.specs.Places.{Lists};
 ghost use Rattle.as_of_index.specs.Private.Postings.{numbered};
 ghost use Rattle.links.specs.Laws.{EachPosted};
 ghost use Rattle.links.specs.Private.{postings_in};
 ghost use Rattle.links.specs.Private.Asking.{AreEnough, placed_cmp};
-ghost use Rattle.links.specs.Private.Memberships.{asked_above};
+ghost use Rattle.links.specs.Private.Memberships.{asked_above, passed_above, IsMemberPath};
 
 use crate::Links;
 use crate::finding::{Asked, asked_for, find_by_key};
 use crate::posting::{Posting, Tag};
 use crate::postings::Sealed;
-use crate::wanted::{all_with, part};
+use crate::wanted::{Wanted, all_with, part};
 use as_of_index::{AsOf, Chosen, Index, ReadFault, RowReader, is_above, read_all};
 use rf2_values::{Kind, Row, Sctid};
 use std::alloc::{AllocError, Global};
@@ -76,25 +77,25 @@ fn id_behind(index: &Index, lists: &mut [Vec<u32>], count: usize) -> Option<u128
     least
 }
 
-/// The places of the current members with ids greater than `after`, if that is given, by id: either
-/// of all of them, or of those up to some id, at least `limit` many. In this way it is rarely
+/// The places of the wanted current members with ids greater than `after`, if that is given, by id:
+/// either of all of them, or of those up to some id, at least `limit` many. In this way it is rarely
 /// tested whether a member after the first `limit` is current, which is the most expensive part.
 fn enough_by_id(
     alloc: Global,
     links: &[Sealed],
     index: &Index,
-    refset: u64,
+    wanted: Wanted,
     as_of: &AsOf,
     after: Option<u128>,
     limit: u32,
 ) -> Result<Vec<Chosen>, AllocError>
     ensures { IfOk result (λ kept. (lists : List (List StampedRow)) → Lists index.now lists
-        → AreEnough placed_cmp (asked_above refset as_of.now after) limit lists
+        → AreEnough placed_cmp (asked_above wanted as_of.now after) limit lists
         (numbered 0 (postings_in links.now)) kept.items) }
 {
     let all = Asked {
         above: after,
-        ..asked_for(all_with(Tag::Member, refset), as_of)
+        ..asked_for(wanted, as_of)
     };
     let mut rows = posted_rows(alloc, links, index, &all)?;
     let mut count = limit as usize;
@@ -113,6 +114,33 @@ fn enough_by_id(
         count = count.saturating_mul(4);
     }
     find_by_key(alloc, links, index, &all)
+}
+
+/// The first `limit` of the wanted members at the date. Its contract holds for each test that is a
+/// path to these.
+fn page<R: RowReader>(
+    alloc: Global,
+    links: &Links,
+    index: &Index,
+    reader: &mut R,
+    wanted: Wanted,
+    as_of: AsOf,
+    after: Option<u128>,
+    limit: u32,
+) -> Result<Vec<Row>, ReadFault>
+    ensures answer { (test : RowValue → Bool) → IsMemberPath test wanted
+        → IsRowsRead result (λ rows. rows.items)
+        (λ lists. take limit (passed_above test as_of.date after (rows_seen as_of lists)))
+        (λ lists. Lists index.now lists × EachPosted lists links.now) R.cost (R.view reader.old)
+        (R.view reader.new) }
+    ensures stays { R.stays reader.old reader.new }
+{
+    // The contract of `lists` says that no key is listed twice.
+    let _listed = index.lists();
+    let links = links.as_slice();
+    let mut kept = enough_by_id(alloc, links, index, wanted, &as_of, after, limit)?;
+    kept.truncate(limit as usize);
+    read_all(alloc, reader, kept.as_slice())
 }
 
 /// The first `limit` members of the reference set at the date, by id, active or not, with ids
@@ -138,10 +166,32 @@ pub fn members<R: RowReader>(
         (R.view reader.new) }
     ensures stays { R.stays reader.old reader.new }
 {
-    // The contract of `lists` says that no key is listed twice.
-    let _listed = index.lists();
-    let links = links.as_slice();
-    let mut kept = enough_by_id(alloc, links, index, refset.value(), &as_of, after, limit)?;
-    kept.truncate(limit as usize);
-    read_all(alloc, reader, kept.as_slice())
+    let wanted = all_with(Tag::Member, refset.value());
+    page(alloc, links, index, reader, wanted, as_of, after, limit)
+}
+
+/// The same of the active members alone.
+pub fn active_members<R: RowReader>(
+    alloc: Global,
+    links: &Links,
+    index: &Index,
+    reader: &mut R,
+    refset: Sctid,
+    as_of: AsOf,
+    after: Option<u128>,
+    limit: u32,
+) -> Result<Vec<Row>, ReadFault>
+    // promise: an_answer_is_the_defined_one, keys_are_right_on_every_disk, no_damage_is_invented
+    // promise: a_question_reads_only_its_rows
+    ensures answer { IsRowsRead result (λ rows. rows.items)
+        (λ lists. active_members refset as_of.date after limit (rows_seen as_of lists))
+        (λ lists. Lists index.now lists × EachPosted lists links.now) R.cost (R.view reader.old)
+        (R.view reader.new) }
+    ensures stays { R.stays reader.old reader.new }
+{
+    let wanted = Wanted {
+        active: true,
+        ..all_with(Tag::Member, refset.value())
+    };
+    page(alloc, links, index, reader, wanted, as_of, after, limit)
 }

@@ -6,7 +6,7 @@ use Rattle.std.specs.Prelude.{Option, Some, None}
 use Rattle.std.proofs.lemmas.Option.{same_Some, none-some}
 use Rattle.rf2_values.specs.Row.{RowValue}
 use Rattle.history_model.specs.InOrder.{Has, joined}
-use Rattle.history_model.specs.Queries.{page, all_above, search_terms, terms_above, delta, changed_above, members, members_above, values, values_above}
+use Rattle.history_model.specs.Queries.{page, all_above, search_terms, terms_above, delta, changed_above, members, members_above, active_members, active_above, values, values_above}
 use Rattle.history_model.specs.Membership.{last_component}
 use Rattle.history_model.proofs.Snapshots.{page_cons}
 use Rattle.history_model.proofs.Paging.{take_short, goes_on, are_all, ends, search_cons}
@@ -14,8 +14,8 @@ use Rattle.rf2_values.specs.Key.{key_of}
 use Rattle.history_model.specs.Exports.{all_of_kind, rows_of_kind}
 use Rattle.history_model.proofs.Exports.{kind_first}
 use Rattle.history_model.proofs.Audits.{changed_cons}
-use Rattle.history_model.proofs.Membership.{members_cons, few_values_are_all, values_and_the_rest, none_above, joined_are_all, some_end}
-use Rattle.question_model.specs.Questions.{Search, Page, Delta, Members, Values, AllRows, Words}
+use Rattle.history_model.proofs.Membership.{members_cons, active_cons, few_values_are_all, values_and_the_rest, none_above, joined_are_all, some_end}
+use Rattle.question_model.specs.Questions.{Search, Page, Delta, Members, ActiveMembers, Values, AllRows, Words}
 use Rattle.word_model.specs.Words.{words_found, some_words_found}
 use Rattle.question_model.specs.Laws.{ArePages, PageAndTheRest, ShortPageIsLast, PagesAreAll, PagesEnd}
 
@@ -84,29 +84,31 @@ module _ (date : ℕ) (wanted_type : Option ℕ) (limit : ℕ) (text : List ℕ)
 -- ---- each question
 
 pub short_page_is_last : ShortPageIsLast
-unfolding page search_terms delta members rows_of_kind some_words_found
+unfolding page search_terms delta members active_members rows_of_kind some_words_found
 short_page_is_last (Search prefix date after limit) most rows is short = take_short limit (terms_above prefix date after rows) (own_most limit most _ is short)
 short_page_is_last (Page kind date after limit) most rows is short = take_short limit (all_above kind date after rows) (own_most limit most _ is short)
 short_page_is_last (Delta kind from date after limit) most rows is short = take_short limit (changed_above kind from date after rows) (own_most limit most _ is short)
 short_page_is_last (Members refset date after limit) most rows is short = take_short limit (members_above refset date after rows) (own_most limit most _ is short)
+short_page_is_last (ActiveMembers refset date after limit) most rows is short = take_short limit (active_above refset date after rows) (own_most limit most _ is short)
 short_page_is_last (Values refset date after limit) most rows is short = few_values_are_all refset date after limit rows (own_most limit most _ is short)
 short_page_is_last (AllRows kind after limit) most rows is short = take_short limit (all_of_kind kind after rows) (own_most limit most _ is short)
 short_page_is_last (Words date wanted_type offset limit text) most rows is short = take_short limit (drop offset (words_found date wanted_type text rows)) (own_most limit most _ is short)
 short_page_is_last question most rows is short = absurd (none-some most is)
 
 pub page_and_the_rest : PageAndTheRest
-unfolding page search_terms delta members rows_of_kind
+unfolding page search_terms delta members active_members rows_of_kind
 page_and_the_rest (Search prefix date after limit) most rows is up = goes_on its_id (λ id. terms_above prefix date id rows) (λ id b ys e. search_cons prefix date id rows b ys up e) limit after
 page_and_the_rest (Page kind date after limit) most rows is up = goes_on its_id (λ id. all_above kind date id rows) (λ id b ys e. page_cons kind date id rows b ys up e) limit after
 page_and_the_rest (Delta kind from date after limit) most rows is up = goes_on its_id (λ id. changed_above kind from date id rows) (λ id b ys e. changed_cons kind from date id rows b ys up e) limit after
 page_and_the_rest (Members refset date after limit) most rows is up = goes_on its_id (λ id. members_above refset date id rows) (λ id b ys e. members_cons refset date id rows b ys up e) limit after
+page_and_the_rest (ActiveMembers refset date after limit) most rows is up = goes_on its_id (λ id. active_above refset date id rows) (λ id b ys e. active_cons refset date id rows b ys up e) limit after
 page_and_the_rest (Values refset date after limit) most rows is up = values_and_the_rest refset date after limit rows up
 page_and_the_rest (AllRows kind after limit) most rows is up = goes_on key_of (λ key. all_of_kind kind key rows) (kind_first kind rows up) limit after
 page_and_the_rest (Words date wanted_type offset limit text) most rows is up = words_and_rest date wanted_type limit text rows (Some offset)
 page_and_the_rest question most rows is up = absurd (none-some most is)
 
 pub pages_are_all : PagesAreAll
-unfolding page search_terms delta members rows_of_kind
+unfolding page search_terms delta members active_members rows_of_kind
 pages_are_all (Search prefix date after limit) most rows pages is some up are =
     are_all its_id (λ id. terms_above prefix date id rows) (λ id b ys e. search_cons prefix date id rows b ys up e) limit (own_least limit most is some)
     (λ id. ArePages (Search prefix date id limit) rows) (λ id. (λ e. e, λ e. e)) (λ id first others. (λ e. e, λ e. e)) after pages are
@@ -119,6 +121,9 @@ pages_are_all (Delta kind from date after limit) most rows pages is some up are 
 pages_are_all (Members refset date after limit) most rows pages is some up are =
     are_all its_id (λ id. members_above refset date id rows) (λ id b ys e. members_cons refset date id rows b ys up e) limit (own_least limit most is some)
     (λ id. ArePages (Members refset date id limit) rows) (λ id. (λ e. e, λ e. e)) (λ id first others. (λ e. e, λ e. e)) after pages are
+pages_are_all (ActiveMembers refset date after limit) most rows pages is some up are =
+    are_all its_id (λ id. active_above refset date id rows) (λ id b ys e. active_cons refset date id rows b ys up e) limit (own_least limit most is some)
+    (λ id. ArePages (ActiveMembers refset date id limit) rows) (λ id. (λ e. e, λ e. e)) (λ id first others. (λ e. e, λ e. e)) after pages are
 pages_are_all (Values refset date after limit) most rows pages is some up are =
     let least = own_least limit most is some in
     joined_are_all (λ c. values_above refset date c rows) (λ c. values refset date c limit rows) last_component (λ c. values_and_the_rest refset date c limit rows up) (λ c e. none_above refset date c limit rows least e)
@@ -131,7 +136,7 @@ pages_are_all (Words date wanted_type offset limit text) most rows pages is some
 pages_are_all question most rows pages is some up are = absurd (none-some most is)
 
 pub pages_end : PagesEnd
-unfolding page search_terms delta members rows_of_kind
+unfolding page search_terms delta members active_members rows_of_kind
 pages_end (Search prefix date after limit) most rows is some up =
     ends its_id (λ id. terms_above prefix date id rows) (λ id b ys e. search_cons prefix date id rows b ys up e) limit (own_least limit most is some)
     (λ id. ArePages (Search prefix date id limit) rows) (λ id. (λ e. e, λ e. e)) (λ id first others. (λ e. e, λ e. e)) (length (terms_above prefix date after rows)) after (omega arith)
@@ -144,6 +149,9 @@ pages_end (Delta kind from date after limit) most rows is some up =
 pages_end (Members refset date after limit) most rows is some up =
     ends its_id (λ id. members_above refset date id rows) (λ id b ys e. members_cons refset date id rows b ys up e) limit (own_least limit most is some)
     (λ id. ArePages (Members refset date id limit) rows) (λ id. (λ e. e, λ e. e)) (λ id first others. (λ e. e, λ e. e)) (length (members_above refset date after rows)) after (omega arith)
+pages_end (ActiveMembers refset date after limit) most rows is some up =
+    ends its_id (λ id. active_above refset date id rows) (λ id b ys e. active_cons refset date id rows b ys up e) limit (own_least limit most is some)
+    (λ id. ArePages (ActiveMembers refset date id limit) rows) (λ id. (λ e. e, λ e. e)) (λ id first others. (λ e. e, λ e. e)) (length (active_above refset date after rows)) after (omega arith)
 pages_end (Values refset date after limit) most rows is some up =
     let least = own_least limit most is some in
     some_end (λ c. values_above refset date c rows) (λ c. values refset date c limit rows) last_component (λ c. values_and_the_rest refset date c limit rows up) (λ c e. none_above refset date c limit rows least e)

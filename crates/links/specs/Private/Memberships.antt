@@ -1,8 +1,11 @@
 -- Definitions about members of reference sets, for private functions and proofs. No public clause
 -- cites them.
-use Rattle.std.specs.Prelude.{◌≡◌, ◌≤◌, ◌<◌, ◌++◌, ℕ, Bool, true, false, List, [], ◌∷◌, length}
+use Rattle.std.specs.Prelude.{◌≡◌, ◌≤◌, ◌<◌, ◌++◌, ◌&&◌, ℕ, Bool, true, List, [], ◌∷◌, length}
 use Rattle.std.specs.Prelude.{take, drop, nat_lt, Option, Some, None}
 use Rattle.std.specs.List.{filter, AllByRecursion}
+use Rattle.rf2_values.specs.declared.row.Kind.TheVariants as kinds
+use Rattle.rf2_values.specs.Row.{RowValue, kind_of}
+use Rattle.history_model.specs.Queries.{is_above, snapshot}
 use Rattle.history_model.specs.declared.stamped.StampedRow.{StampedRow}
 use Rattle.as_of_index.specs.declared.as_of.AsOf.{AsOf}
 use Rattle.as_of_index.specs.declared.chosen.Chosen.{Chosen}
@@ -13,22 +16,27 @@ use Rattle.links.specs.declared.wanted.Seconds.{Seconds}
 use Rattle.links.specs.declared.wanted.Seconds.TheVariants as seconds
 use Rattle.links.specs.declared.wanted.Wanted.{Wanted}
 use Rattle.links.specs.declared.finding.Asked.{Asked}
-use Rattle.links.specs.Private.Asking.{placed_cmp, AreFound}
+use Rattle.links.specs.Private.Asking.{placed_cmp, AreFound, IsPath}
 
 -- the members of a reference set whose components have these numbers; the active ones, or all
 abbrev pub members_with : ℕ → Seconds → Bool → Wanted
 members_with refset those active =
     record { tag = tags.Member; first = refset; seconds = those; active = active }
 
--- all members, active or not, with ids greater than `after` and at most `last`, if these are given
-abbrev pub asked_above : ℕ → AsOf → Option ℕ → Option ℕ → Asked
-asked_above refset as_of after last =
-    record {
-      wanted = members_with refset (seconds.Between None None) false;
-      above = after;
-      up_to = last;
-      as_of = as_of;
-    }
+-- the wanted ones with ids greater than `after` and at most `last`, if these are given
+abbrev pub asked_above : Wanted → AsOf → Option ℕ → Option ℕ → Asked
+asked_above wanted as_of after last =
+    record { wanted = wanted; above = after; up_to = last; as_of = as_of }
+
+-- a row passes the test exactly if one of its postings is wanted, and is a member then
+pub record IsMemberPath (test : RowValue → Bool) (wanted : Wanted) : Type 0 where
+  pub path : IsPath test wanted
+  pub of_kind : (row : RowValue) → test row ≡ true → kind_of row ≡ kinds.Member
+
+-- the rows at the date that pass the test, with ids greater than `after`, if that is given
+abbrev pub passed_above : (RowValue → Bool) → ℕ → Option ℕ → List RowValue → List RowValue
+passed_above test date after rows =
+    filter (λ row. test row && is_above after row.id) (snapshot rows date)
 
 -- the active members that refer to a component greater than `after` and at most `last`, if these
 -- are given

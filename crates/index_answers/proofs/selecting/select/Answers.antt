@@ -49,6 +49,9 @@ returns-in-Replaces-clause-answer g c = rw c.in-Replaces.is (refl, of_index c.ar
 pub returns-in-Members-clause-answer : goal.returns-in-Members-clause-answer
 returns-in-Members-clause-answer g c = rw c.in-Members.is (refl, of_index c.args.index.now.lists c.members.ensures.answer (c.places-places.ensures, c.links-links.ensures))
 
+pub returns-in-ActiveMembers-clause-answer : goal.returns-in-ActiveMembers-clause-answer
+returns-in-ActiveMembers-clause-answer g c = rw c.in-ActiveMembers.is (refl, of_index c.args.index.now.lists c.active_members.ensures.answer (c.places-places.ensures, c.links-links.ensures))
+
 pub returns-in-Values-clause-answer : goal.returns-in-Values-clause-answer
 returns-in-Values-clause-answer g c = rw c.in-Values.is (refl, of_index c.args.index.now.lists c.values.ensures.answer (c.places-places.ensures, c.links-links.ensures))
 
