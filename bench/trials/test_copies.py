@@ -8,7 +8,7 @@ from pathlib import Path
 
 import pytest
 
-from harness import WAITING, Client, Hub, Place, concept, concept_id, flip, mode, until
+from harness import Client, Hub, Place, concept, concept_id, flip, mode, until
 from harness import write_release
 
 # How many clients ask while a copy is made, and how often each does while the hub waits.
@@ -67,18 +67,14 @@ def test_bad_copies(place: Place, store: Path, change: Callable[[Place, Path], o
 
 # What a file of somebody else has.
 FOREIGN = b"somebody else's"
-# Before each part of a backup the hub waits until there is a file.
+# Before each part of a backup the hub waits until there is a file, or it is stopped.
 COPYING = "                self.go_on()\n"
-SLOWLY = """\
-                while not (made.path == self.copy or self.is_stopped.wait(0.01)
-                           or os.path.exists(%r)):
-                    pass
-"""
+SLOWLY = "made.path == self.copy or self.is_stopped.is_set() or os.path.exists(%r)"
 
 
 def slow_copies(place: Place, go_on: Path) -> Place:
     """The same with backups that wait for the file of this name."""
-    return place.changed("store.py", COPYING, SLOWLY % str(go_on) + COPYING)
+    return place.stopping("store.py", COPYING, SLOWLY % str(go_on))
 
 
 def begin_copy(client: Client, path: Path) -> None:
@@ -91,13 +87,13 @@ class Slowly:
 
     def __init__(self, place: Place) -> None:
         self.go_on, self.path = place.path("go on"), place.path("copy")
-        self.place = slow_copies(place, self.go_on).wrapped(WAITING % "status")
+        self.place = slow_copies(place, self.go_on).waiting("status")
         self.check_on = self.place.path("go on")
 
     def make(self) -> None:
         """Lets the hub make the copy, up to its check."""
         self.go_on.touch()
-        until("the copy is checked", self.place.path("begun").exists)
+        self.place.until_begun()
 
 
 @pytest.fixture

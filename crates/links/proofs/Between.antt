@@ -1,6 +1,6 @@
 -- Postings between two places in their order, and those that are wanted.
 use Rattle.std.proofs.Common.{◌≡◌, ℕ, ◌+◌, ◌≤◌, true, false, List, [], ◌++◌, take, drop, refl, sym, ap, subst, inl, inr, ◌∙◌, arith, take-append-drop, min}
-use Rattle.std.specs.Prelude.{◌*◌, ◌==◌, ◌&&◌, ◌||◌, not, nat_lt, nat_le, Option, Some, None}
+use Rattle.std.specs.Prelude.{◌*◌, ◌==◌, ◌&&◌, ◌||◌, not, nat_lt, nat_le, Some, None}
 use Rattle.std.proofs.Math.Nat.{min-le_right, min-le_left, le-min}
 use Rattle.std.proofs.lemmas.Bool.Decides.{nat_tests}
 use Rattle.std.proofs.lemmas.Bool.{eqb-true, and_parts, ltb-false, leb-true}
@@ -15,8 +15,9 @@ use Rattle.links.specs.declared.wanted.Seconds.{Seconds}
 use Rattle.links.specs.declared.wanted.Seconds.TheVariants as seconds
 use Rattle.links.specs.declared.wanted.Wanted.{Wanted}
 use Rattle.links.specs.Edges.{RowKey, tag_place, posting_rank, rank_of}
+use Rattle.links.specs.Selection.{is_up_to, is_second, is_wanted}
 use Rattle.links.specs.Private.{Takes}
-use Rattle.links.specs.Private.Asking.{is_up_to, is_second, is_wanted, key_of, low_from, high_from, low_rank, high_rank, AreGiven}
+use Rattle.links.specs.Private.Asking.{key_of, low_from, high_from, low_rank, high_rank, AreGiven}
 use Rattle.links.proofs.Numbering.{in_list, one_of}
 
 module _ {X : Type 0} (of : X → ℕ) (list : List X) (d e first count : ℕ) (low : SplitsAt (λ x. nat_lt (of x) d) list first) (high : SplitsAt (λ x. nat_le (of x) e) (drop first list) count) where

@@ -1,12 +1,11 @@
 -- The rows of the places that are found are those that are asked for.
 use Rattle.std.proofs.Common.{◌≡◌, ℕ, Bool, true, false, List, [], ◌∷◌, map, refl, sym, ap, subst, inl, inr, ◌∙◌}
-use Rattle.std.specs.Prelude.{◌&&◌, ◌||◌, Some}
+use Rattle.std.specs.Prelude.{◌||◌, Some}
 use Rattle.std.specs.List.{list_any}
 use Rattle.std.specs.Cmp.{IsTotalOrder, on_total}
 use Rattle.std.specs.declared.cmp.Ordering.{Ordering}
 use Rattle.std.specs.declared.cmp.Ordering.TheVariants.{Less, Equal}
 use Rattle.std.proofs.lemmas.Bool.{and_from, and_parts}
-use Rattle.rf2_values.specs.declared.row.Kind.{Kind}
 use Rattle.rf2_values.specs.declared.key.Key.{Key}
 use Rattle.rf2_values.specs.Row.{RowValue}
 use Rattle.rf2_values.specs.Key.{key_of as row_key_of, key_cmp}
@@ -34,8 +33,9 @@ use Rattle.as_of_index.proofs.Pushing.{numbers_of_row}
 use Rattle.links.specs.declared.posting.Posting.{Posting}
 use Rattle.links.specs.declared.finding.Asked.{Asked}
 use Rattle.links.specs.Edges.{Edges, RowKey, keys_of, posting}
+use Rattle.links.specs.Selection.{is_between, is_wanted, IsPath}
 use Rattle.links.specs.Private.{postings_in}
-use Rattle.links.specs.Private.Asking.{is_between, is_wanted, key_of, is_asked, is_passed, selected, placed, IsPath, GivesAsked, AreFound, placed_cmp}
+use Rattle.links.specs.Private.Asking.{key_of, is_asked, is_passed, selected, placed, GivesAsked, AreFound, placed_cmp}
 use Rattle.links.specs.Laws.{EachPosted}
 use Rattle.links.proofs.Posted.{posting_stands, each_key_is_posted}
 
