@@ -2,26 +2,38 @@
 it and `copy` makes of it, that a hub takes it up, and that no fault of it changes either."""
 
 import contextlib
+import itertools
 import os
 import resource
 import shutil
+import signal
 import subprocess
-from collections.abc import Callable, Sequence
+from collections import Counter
+from collections.abc import Callable, Iterator, Sequence
 from functools import partial
 from pathlib import Path
 
 import pytest
 
 from harness import BLOCK, RELEASES, Hub, Place, concept, has_strace, mode, write_release
-from test_imports import FIRST_LINE, NO_DIGEST, NO_IMPORTS, NOTHING, begins, instead, line_of
-from test_imports import list_of, listed, night_lines, on_small_disk, with_times, without_hub
+from moments import Library, Moment
+from test_files import library as library
+from test_imports import FIRST_LINE, KILLS, NO_DIGEST, NO_IMPORTS, NOTHING, begins, instead
+from test_imports import line_of, list_of, listed, night_lines, on_small_disk
+from test_imports import with_times, without_hub
 
 UNLISTED = "sctd: warning: {}.imports: the import isn't listed: {}\n"
 NOT_COPIED = "sctd: warning: {}.imports isn't copied to {}.imports: {}\n"
 NO_FILE, IS_FOLDER = "not a regular file", "Is a directory (os error 21)"
 NO_ROOM, ONLY_READ = "No space left on device (os error 28)", "Read-only file system (os error 30)"
 NOWHERE = "No such file or directory (os error 2)"
+LACKING = "it has no line for {} of {} imports, the first of which is {}"
+LACKS = LACKING.format(1, 2, 1)
 NO_LIST = "it is no list of imports that this program knows"
+# Before which calls on which files an import is killed, and how.
+KILLED_BEFORE = [(call, path) for path in (".txt", "store", "store.imports")
+                 for call in ("open", "read", "pread", "pwrite", "fsync")]
+KILLING, MOST_KILLS = "kill -9 $PPID", 99
 # What has nothing of sudo around it, where it is the user that counts.
 ALONE = {name: value for name, value in os.environ.items() if not name.startswith("SUDO_")}
 
@@ -103,6 +115,49 @@ def test_syncs(place: Place) -> None:
         lines = ran.stderr[ran.stderr.index('.imports", O_RDWR') :]
         written = lines[lines.index("\\tuser ") : lines.index('write(1, "OK ')]
         assert written.count("fsync(") == syncs
+
+
+def lacks(lines: Sequence[str]) -> list[str]:
+    """What is told of a list where some of these imports have no line."""
+    lacking = [number for number, line in enumerate(lines, 1) if line.endswith(NOTHING)]
+    return [LACKING.format(len(lacking), len(lines), lacking[0])] if lacking else []
+
+
+def listed_so_far(store: Path) -> list[str]:
+    """The lines of its list, without their times, if it has one that isn't empty."""
+    return listed(store) if list_of(store).exists() and list_of(store).stat().st_size else []
+
+
+def killed_before(library: Library, call: str, path: str) -> Iterator[dict[str, str]]:
+    """What is around imports that are killed before their first call on such a file, before their
+    second one, and so on, and around the one that has no more such calls."""
+    for number in itertools.count(1):
+        yield ALONE | library.around([Moment(call, path, number, number, 0, KILLING)])
+        if not library.met():
+            return
+
+
+def test_kills(place: Place, library: Library) -> None:
+    """Before whichever call an import is killed: one that is done has its line or lacks it, which
+    the next start tells, and one that isn't done has none."""
+    store, nights, lines = place.make_store(), place.write_nights(MOST_KILLS), list[str]()
+    ends, moments = Counter[tuple[bool, bool]](), itertools.chain.from_iterable(
+        killed_before(library, call, path) for call, path in KILLED_BEFORE)
+    for release, around in zip(nights, moments):
+        before, number = listed_so_far(store), len(lines) + 1
+        ran = place.run("import", "--quiet", "--store", store, release, around=around)
+        is_done = place.status(store).startswith(f"OK {number} ")
+        added = listed_so_far(store)[len(before) :]
+        assert added in ([], [line_of(number, release, 1)][:is_done])
+        if library.met():
+            assert ran[:2] == (-signal.SIGKILL, "")
+            ends[is_done, bool(added)] += 1
+        else:
+            assert ran == (0, f"OK {number} 1 0\n", "") and added
+        if is_done:
+            lines += added or [f"{number}{NOTHING}"]
+            begins(place, store, lacks(lines), lines)
+    assert ends.total() >= KILLS and set(ends) == {(False, False), (True, False), (True, True)}
 
 
 def test_two_take_backs(place: Place) -> None:
@@ -222,7 +277,6 @@ def cut(path: Path) -> None:
         file.write(b"2\t2020-10-01T09:00")
 
 
-LACKS = "it has no line for 1 of 2 imports, the first of which is 1"
 # What another program makes of a list, and what is told of it by a hub.
 CHANGES: dict[str, tuple[Callable[[Path], object], list[str], bool]] = {
     "removed": (Path.unlink, [LACKS], False),
@@ -311,8 +365,8 @@ def test_full_disk(place: Place, small_disk: Path) -> None:
     filler.unlink()
     import_nights(place, link, made[3:], 4)
     first, *_, last = night_lines(made)
-    begins(place, link, ["it has no line for 2 of 4 imports, the first of which is 2"],
-           [first, "2" + NOTHING, "3" + NOTHING, last])
+    lines = [first, "2" + NOTHING, "3" + NOTHING, last]
+    begins(place, link, lacks(lines), lines)
 
 
 def test_nothing_is_listed(place: Place) -> None:
