@@ -1,6 +1,7 @@
 """The table of FHIR's parameters: what each operation takes, passes over and refuses."""
 
 import json
+from collections.abc import Iterator
 from pathlib import Path
 from typing import Any
 
@@ -90,6 +91,21 @@ URLS = {
     "CodeSystem/$validate-code": SCT, "ConceptMap/$translate": SCT + "?fhir_cm=900000000000527005"}
 CELLS = [(operation, name, way) for name, row in parameters.ROWS.items()
          for operation, way in row.items()]
+GUIDE = Path(__file__).resolve().parents[2] / "docs" / "FHIR.md"
+# The columns of the guide's table, and the operation of a row for all of them.
+WAYS = (parameters.HAS, parameters.OWN, parameters.OVER, parameters.ALSO, parameters.REFUSED)
+EACH = "each"
+
+
+def cells_of_the_guide() -> Iterator[tuple[str, str, str]]:
+    """What the guide says of each parameter that an operation has; a row may be of several."""
+    table = GUIDE.read_text("utf-8").partition("| Operation |")[2].partition("\n\n")[0]
+    for line in table.splitlines()[2:]:
+        first, *cells = (cell.replace("`", "").strip() for cell in line.strip("|").split("|"))
+        operations = parameters.OPERATIONS if first == EACH else first.split(", ")
+        for way, cell in zip(WAYS, cells, strict=True):
+            for name in cell.split() if cell != "-" else ():
+                yield from ((operation, name, way) for operation in operations)
 
 
 class TestTable:
@@ -112,9 +128,9 @@ class TestTable:
         assert counts["has"] + counts["over"] >= AT_LEAST
 
     def test_the_guide_has_the_table(self) -> None:
-        documents = (Path(__file__).resolve().parents[2] / "docs").rglob("*.md")
-        table = parameters.TABLE.strip()
-        assert any(table in document.read_text("utf-8") for document in documents)
+        ours = [(operation, name, way) for operation, name, way in CELLS
+                if way != parameters.UNKNOWN]
+        assert sorted(cells_of_the_guide()) == sorted(ours)
 
 
 class TestRows(Asked):
