@@ -6,9 +6,9 @@ Both sides import the Full release: the shell by `.import` into a table a kind, 
 date, and makes its indexes after the rows. Then both import the same release once more, and the
 Delta; and both are asked the same questions, each kind in a process of its own, whose answers have
 to be the same lines; so have those of `AT 1` and of the shell from before the Delta, since its
-tables have no number of an import. Before those of an audit the shell makes indexes for them. Then
-the two segments of sctd's store are merged, line by line. Last, both import a release by which all
-concepts are a tree below the root, and are asked for all of them, and for what is above some.
+tables have no number of an import. Before those of an audit the shell makes indexes for them. Last,
+both import a release by which all concepts are a tree below the root, and are asked for all of
+them, and for what is above some; the two segments of sctd's store are merged before.
 
 Terms are searched without regard to case in ASCII alone. The shell may keep as many bytes of pages
 in memory as `sctd` holds. Processor seconds are of the whole process for the shell, and of sctd's
@@ -22,7 +22,6 @@ import itertools
 import os
 import random
 import sys
-import time
 from collections.abc import Callable, Iterable, Iterator, Mapping, Sequence
 from pathlib import Path
 from typing import Optional
@@ -342,23 +341,6 @@ class Table:
         print_row(self.rows, title, *shown, ratio, behind="" if same else " NOT the same")
 
 
-def merged(served: Served, table: Table) -> None:
-    """Merges the two segments of the store, a line at a time, and tells the longest of each."""
-    longest: dict[str, float] = {}
-    command = "MERGE"
-    while command:
-        start = time.monotonic()
-        told = served.replies(["0 " + command])
-        name = command.split(" ")[0]
-        longest[name] = max(longest.get(name, 0), time.monotonic() - start)
-        if not told.startswith(b"OK"):
-            raise SystemExit("0 %s: %r" % (command, told))
-        left = told.split()[1:]
-        command = "" if name == "PUBLISH" else "PUBLISH" if left == [b"0"] else "STEP 1000"
-    for name, wall in longest.items():
-        print("| %d | the longest %s | %.4f | | | | | | |" % (table.rows, name, wall))
-
-
 def ask(table: Table, served: Served, shell: Shell, title: str, lines: Sequence[str],
         queries: Iterable[str] = (), rows_in: Callable[[bytes], Optional[bytes]] = rows_alone
         ) -> None:
@@ -425,8 +407,8 @@ def compare(program: str, folder: str, count: int) -> bool:
     table.show("the shell's indexes for an audit", None, shell.run(AUDIT_INDEXES)[1])
     for title, lines in drawn.of(AUDITS):
         ask(table, served, shell, title, lines)
-    merged(served, table)
     served.end()
+    sctd.run("merge")
     ask_in_a_tree(table, sctd, shell, drawn.of(IN_A_TREE))
     sizes = os.path.getsize(sctd.path), os.path.getsize(shell.path)
     print("bytes of the files: sctd %d, SQLite %d" % sizes)

@@ -1,14 +1,12 @@
 """Measures the gateway, the hub and the program below them while clients ask.
 
-measure_gateway.py PROGRAM [--rows N] [--seconds N] [--hub PATH] [--raw-only] [--package]
+measure_gateway.py PROGRAM [--rows N] [--seconds N] [--hub PATH] [--package]
 
 $lookup is asked by 1 and by 16 clients, of random codes on random days, and of 200 codes on one
-day, whose replies are remembered; the first letters of two words of a term are searched by 1
-client, as the page does while one types; and the hub alone is asked the questions of a $lookup by 8
-clients, one by one and four in one write. Clients are two processes, which need a processor of
-their own. With --package the release is a whole package in a store of layout 3, and the gateway has
-a language, so $lookup asks for preferred terms and members too. Then the reference set that has
-each concept is expanded page by page on the last day, twice, by one client.
+day, whose replies are remembered; and the first letters of two words of a term are searched by 1
+client, as the page does while one types. Clients are two processes, which need a processor of their
+own. With --package the release is a whole package in a store of layout 3, and the gateway has a
+language, so $lookup asks for preferred terms and members too.
 """
 
 import argparse
@@ -16,7 +14,6 @@ import contextlib
 import datetime
 import functools
 import http.client
-import json
 import multiprocessing
 import os
 import random
@@ -44,8 +41,7 @@ FEW_CODES = 200
 YEARS = range(2016, 2026)
 READ_BYTES = 1 << 18
 VERSION = "http://snomed.info/sct/%s/version/" % EDITION
-US_ENGLISH, MAP_OF_ALL = "900000000000509007", "900000000000497000"
-PAGE = 1_000
+US_ENGLISH = "900000000000509007"
 # Where a description has its term, and how many letters of a word are typed.
 TERM, TYPED = 7, 3
 # What is measured where nothing else is said: rows, and seconds a line of the table.
@@ -131,11 +127,6 @@ def search(terms: Sequence[str], days: Sequence[str]) -> bytes:
     return request("/suggest?" + urlencode({"text": text, "date": day}))
 
 
-def questions(codes: Sequence[str], days: Sequence[str]) -> bytes:
-    code, day = random.choice(codes), random.choice(days)
-    return "".join("%s %s %s\n" % (question, code, day) for question in QUESTIONS).encode()
-
-
 def question(codes: Sequence[str], days: Sequence[str]) -> bytes:
     line = random.choice(QUESTIONS)
     return ("%s %s %s\n" % (line, random.choice(codes), random.choice(days))).encode()
@@ -210,34 +201,6 @@ class UnixHttp(http.client.HTTPConnection):
         self.sock.connect(self.path)
 
 
-def expanded(path: str, day: str) -> None:
-    """Expands a reference set page by page, and prints how long that takes."""
-    client, offset = UnixHttp(path), 0
-    codes: set[str] = set()
-    waits: list[float] = []
-    target = "/fhir/ValueSet/$expand?url=%s%s?fhir_vs=refset/%s&count=%d&offset=%d"
-    while True:
-        began = time.perf_counter()
-        client.request("GET", target % (VERSION, day, MAP_OF_ALL, PAGE, offset))
-        answer = client.getresponse()
-        said = json.loads(answer.read())
-        waits.append((time.perf_counter() - began) * 1e3)
-        if answer.status != 200:
-            raise SystemExit("$expand: %s" % said)
-        page = said["expansion"].get("contains", [])
-        codes.update(one["code"] for one in page)
-        offset += PAGE
-        if offset >= said["expansion"]["total"]:
-            break
-    client.close()
-    if len(codes) != said["expansion"]["total"]:
-        raise SystemExit("$expand: %d codes, and not %d" % (len(codes), said["expansion"]["total"]))
-    line = "$expand of %d codes by %d: the first %.0f ms, the others %.0f ms (%.0f to %.0f)"
-    others = waits[1:] or waits
-    shown = (statistics.median(others), min(others), max(others))
-    print(line % (len(codes), PAGE, waits[0], *shown), flush=True)
-
-
 def concepts(folder: str) -> list[str]:
     return sorted({row[0] for row in rf2.rows_of(os.path.join(folder, "full"), "C")})
 
@@ -275,30 +238,19 @@ def tried(options: argparse.Namespace) -> None:
         stack.callback(stop, hub)
         gateway = begin_gateway(options, hub_socket, place)
         stack.callback(stop, gateway)
-        below, seconds = [hub.pid, child_of(hub.pid)], options.seconds
-        every = [gateway.pid, *below]
-        any_code, one, four = (
-            functools.partial(make, codes, days) for make in (lookup, question, questions))
+        pids = [gateway.pid, hub.pid, child_of(hub.pid)]
         few = random.Random(1).sample(codes, min(FEW_CODES, len(codes)))
+        any_code = functools.partial(lookup, codes, days)
         one_day = functools.partial(lookup, few, days[-1:])
         words = functools.partial(search, terms_of(folder), days)
         print_head("Asked", "Clients", "a second", "median ms",
                    "processor us: gateway / hub / program")
-        for name, pids, client, path, make, clients in (
-                ("$lookup", every, HttpClient, place, any_code, 1),
-                ("$lookup", every, HttpClient, place, any_code, 16),
-                ("$lookup, remembered", every, HttpClient, place, one_day, 16),
-                ("a search by words", every, HttpClient, place, words, 1),
-                ("the hub, one question", below, HubClient, hub_socket, one, 8),
-                ("the hub, four at once", below, HubClient, hub_socket, four, 8)):
-            if pids is below or not options.raw_only:
-                taken = Taken(pids, client, path, make, clients, seconds)
-                print_row(name, clients, "%.0f" % taken.rate, "%.2f" % taken.median,
-                          taken.spent_by_each(), behind=taken.refused)
-        if options.package and not options.raw_only:
-            # (The second time the codes are remembered.)
-            for _ in range(2):
-                expanded(place, days[-1])
+        for name, make, clients in (
+                ("$lookup", any_code, 1), ("$lookup", any_code, 16),
+                ("$lookup, remembered", one_day, 16), ("a search by words", words, 1)):
+            taken = Taken(pids, HttpClient, place, make, clients, options.seconds)
+            print_row(name, clients, "%.0f" % taken.rate, "%.2f" % taken.median,
+                      taken.spent_by_each(), behind=taken.refused)
 
 
 def options_of(doc: str | None, **numbers: int) -> argparse.ArgumentParser:
@@ -314,8 +266,7 @@ def options_of(doc: str | None, **numbers: int) -> argparse.ArgumentParser:
 def main() -> int:
     words = options_of(__doc__, rows=DEFAULT_ROWS, seconds=DEFAULT_SECONDS)
     words.add_argument("--hub", type=absolute, default=HUB)
-    for name in ("--raw-only", "--package"):
-        words.add_argument(name, action="store_true")
+    words.add_argument("--package", action="store_true")
     options = words.parse_args()
     return tell(lambda: tried(options))
 

@@ -45,7 +45,6 @@ from proxy_harness import (  # noqa: E402
 
 GATEWAYS, CLIENTS, EXPANDING, RESTARTED = 3, 64, 3, 4
 DEFAULT_ROWS, DEFAULT_SECONDS, DEFAULT_RESTARTS = 440_000, 5, 100
-ROOT_CONCEPT = "138875005"
 PAGE = 1_000
 # How long between the restarts of two gateways.
 BETWEEN_SECONDS = 0.05
