@@ -73,10 +73,10 @@ for line in sys.stdin.buffer:
 real.stdin.close()
 sys.exit(real.wait())
 """
-# Stands before the program, whose calls with this first word wait until there is a file.
+# Stands before the program, whose calls with these first words wait until there is a file.
 WAITING = """
 import os, sys, time
-if sys.argv[1] == %r:
+if sys.argv[1] in %r:
     open(FOLDER + "/begun", "w").close()
     while not os.path.exists(FOLDER + "/go on"):
         time.sleep(0.01)
@@ -194,6 +194,16 @@ class Place:
                                  f"FOLDER = {str(place.folder)!r}\n{script}", encoding="utf-8")
         place.program.chmod(0o755)
         return place
+
+    def waiting(self, *commands: str) -> Place:
+        """The same with a program that begins these commands, and then waits for `go_on`."""
+        return self.wrapped(WAITING % (commands,))
+
+    def until_begun(self) -> None:
+        until("such a command is begun", self.path("begun").exists)
+
+    def go_on(self) -> None:
+        self.path("go on").touch()
 
     def link_releases(self, *names: str) -> None:
         """Puts these small releases, or all, beside those that are made."""

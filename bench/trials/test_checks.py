@@ -10,16 +10,7 @@ import pytest
 from harness import DAY, Client, Hub, Place, concept, concept_id, flip, until, write_release
 import make_release as rf2
 
-# Stands before the program, whose checks of releases wait until there is a file.
-WAITING = """
-import os, sys, time
-if sys.argv[1] in ("import", "verify"):
-    open(FOLDER + "/checking", "w").close()
-    while not os.path.exists(FOLDER + "/check on"):
-        time.sleep(0.01)
-os.execv(PROGRAM, [PROGRAM, *sys.argv[1:]])
-"""
-# Stands before it too: what its checks tell, are answered and end with instead.
+# Stands before the program: what its checks tell, are answered and end with instead.
 CHECKED = """
 import os, sys
 if sys.argv[1] == "import":
@@ -28,6 +19,8 @@ if sys.argv[1] == "import":
     sys.exit(%d)
 os.execv(PROGRAM, [PROGRAM, *sys.argv[1:]])
 """
+# The commands by which it checks, and compares.
+CHECKS = ("import", "verify")
 UNCOMPARED = "the release wasn't compared with the store's modules and dates"
 NUMBERS, CHANGED = range(1, 11), (3, 7)
 FILE = "sct2_Concept_Delta_"
@@ -159,14 +152,14 @@ def test_so_many_differences(place: Place, store: Path) -> None:
 def test_hubs_that_only_read(place: Place, store: Path) -> None:
     """They compare the store, each on a copy of its own at the same time, and change nothing."""
     before = store.read_bytes()
-    waiting = [place.below(name).wrapped(WAITING) for name in ("one", "other")]
+    waiting = [place.below(name).waiting(*CHECKS) for name in ("one", "other")]
     with (Hub(waiting[0], store, "--read-only", releases=place.releases) as one,
           Hub(waiting[1], store, "--read-only", releases=place.releases) as other):
         for hub, its in zip((one, other), waiting):
             hub.owner.send(f"VERIFY {SNAPSHOT}\n".encode())
-            until("the Snapshot is compared", its.path("checking").exists)
+            its.until_begun()
         for hub, its in zip((one, other), waiting):
-            its.path("check on").touch()
+            its.go_on()
             assert hub.owner.read() == [WHOLE]
             assert hub.owner.ask("CHECK next") == ["OK 2 1 0"]
             for line in ("IMPORT next", "MERGE", "TRIM"):
@@ -202,16 +195,16 @@ def test_who_may_compare(place: Place, store: Path) -> None:
 @pytest.mark.parametrize("line, wanted", SOUND)
 def test_nobody_waits(place: Place, store: Path, checked: Path, line: str, wanted: str) -> None:
     """While a release is checked, others ask, import and check no other one."""
-    waiting = place.wrapped(WAITING)
+    waiting = place.waiting(*CHECKS)
     with Hub(waiting, store, "--import-unchecked", releases=place.releases) as hub:
         owner, other, third = (hub.client() for _ in range(3))
         owner.send(f"{line}\nSTATUS\n".encode())
-        until("the release is checked", waiting.path("checking").exists)
+        waiting.until_begun()
         assert other.ask(f"GET C {concept_id(1)} 20250131")[-1] == "END 1"
         third.send(b"CHECK wrong\n")
         assert other.ask("IMPORT next") == ["OK 2 1 0"]
         assert not owner.has_reply() and not third.has_reply()
-        waiting.path("check on").touch()
+        waiting.go_on()
         # It was checked as the store was then.
         assert (owner.read(), owner.read()) == ([wanted], ["OK 2 11 2 -"])
         assert third.read() == ["ERR 32 Contradiction 1 4"]
@@ -221,11 +214,11 @@ def test_nobody_waits(place: Place, store: Path, checked: Path, line: str, wante
 @pytest.mark.parametrize("line", [line for line, _ in SOUND])
 def test_a_check_of_a_hub_that_ends(place: Place, store: Path, checked: Path, line: str) -> None:
     """It leaves neither the copy nor the process that checks."""
-    waiting = place.wrapped(WAITING)
+    waiting = place.waiting(*CHECKS)
     with Hub(waiting, store, releases=place.releases) as hub:
         owner = hub.client()
         owner.send(line.encode() + b"\n")
-        until("the release is checked", waiting.path("checking").exists)
+        waiting.until_begun()
         started = hub.programs()
         assert len(started) == 2 and checked.exists()
         assert hub.stop() == 0
@@ -303,7 +296,7 @@ def test_no_room_before_an_import(place: Place, store: Path) -> None:
 def test_a_check_that_takes_too_long(place: Place, store: Path, checked: Path) -> None:
     """It is ended, and the import goes on."""
     limit = "LONGEST_CHECK = "
-    soon = place.wrapped(WAITING).changed("checking.py", limit + "3600", limit + "0.5")
+    soon = place.waiting(*CHECKS).changed("checking.py", limit + "3600", limit + "0.5")
     with Hub(soon, store, releases=place.releases) as hub:
         hub.owner.ask("NOTES")
         why = f"{UNCOMPARED}: its check ended without a reply"
@@ -319,21 +312,21 @@ def score(number: int) -> int:
 def test_only_imports_wait_for_a_check(place: Place, store: Path, checked: Path) -> None:
     """While a release is checked before its import, others ask and make backups. Other imports wait
     for theirs, and are checked on a copy that has the ones before."""
-    waiting, copy = place.wrapped(WAITING), place.path("copy")
+    waiting, copy = place.waiting(*CHECKS), place.path("copy")
     write_release(place.releases / "again", {"C": [concept(20, active=0)]})
     with Hub(waiting, store, releases=place.releases) as hub:
         first, second, other = (hub.client() for _ in range(3))
         for client in (first, second):
             client.ask("NOTES")
         first.send(b"IMPORT next\n")
-        until("the release is checked", waiting.path("checking").exists)
+        waiting.until_begun()
         assert sorted(map(score, hub.programs())) == [score(hub.process.pid), KILLED_FIRST]
         second.send(b"IMPORT again\n")
         assert other.ask(f"GET C {concept_id(1)} 20250131")[-1] == "END 1"
         assert other.ask(f"BACKUP {copy}") == ["OK 1 10 1"]
         assert other.ask("STATUS") == ["OK 1 10 1 -"]
         assert not first.has_reply(0.2) and not second.has_reply()
-        waiting.path("check on").touch()
+        waiting.go_on()
         assert first.read() == ["OK 2 1 0"]
         note, reply = second.read()
         assert reply == "ERR 32 Contradiction 1 2" and ": import 2 brought " in note
@@ -342,21 +335,21 @@ def test_only_imports_wait_for_a_check(place: Place, store: Path, checked: Path)
 
 def test_one_copy_at_a_time(place: Place, store: Path) -> None:
     """The check before an import waits for one that another client wants."""
-    waiting = place.wrapped(WAITING)
+    waiting = place.waiting(*CHECKS)
     with Hub(waiting, store, releases=place.releases) as hub:
         first, second = hub.client(), hub.client()
         first.send(f"VERIFY {SNAPSHOT}\n".encode())
-        until("the Snapshot is compared", waiting.path("checking").exists)
+        waiting.until_begun()
         second.send(b"IMPORT next\n")
         assert not second.has_reply(0.2)
         assert len(hub.programs()) == 2
-        waiting.path("check on").touch()
+        waiting.go_on()
         assert (first.read(), second.read()) == ([WHOLE], ["OK 2 1 0"])
 
 
 def test_an_import_of_a_hub_that_ends(place: Place, store: Path, checked: Path) -> None:
     """A hub that is stopped while a release is checked imports nothing, and waits for nothing."""
-    patient = place.wrapped(WAITING).changed("clients.py", "LAST_SECONDS, WAIT_SECONDS = 2, ",
+    patient = place.waiting(*CHECKS).changed("clients.py", "LAST_SECONDS, WAIT_SECONDS = 2, ",
                                              "LAST_SECONDS, WAIT_SECONDS = 3600, ")
     before, program = store.read_bytes(), patient.program.parent
     imports = store.with_name(store.name + ".imports")
@@ -364,7 +357,7 @@ def test_an_import_of_a_hub_that_ends(place: Place, store: Path, checked: Path) 
     with Hub(patient, store, releases=place.releases) as hub:
         first, second = hub.client(), hub.client()
         first.send(b"IMPORT next\n")
-        until("the release is checked", (program / "checking").exists)
+        until("the release is checked", (program / "begun").exists)
         second.send(b"IMPORT package/Delta\n")
         started, began = hub.programs(), time.monotonic()
         assert len(started) == 2 and checked.exists()

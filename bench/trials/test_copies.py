@@ -8,7 +8,7 @@ from pathlib import Path
 
 import pytest
 
-from harness import WAITING, Client, Hub, Place, concept, concept_id, flip, mode, until
+from harness import Client, Hub, Place, concept, concept_id, flip, mode, until
 from harness import write_release
 
 # How many clients ask while a copy is made, and how often each does while the hub waits.
@@ -91,13 +91,13 @@ class Slowly:
 
     def __init__(self, place: Place) -> None:
         self.go_on, self.path = place.path("go on"), place.path("copy")
-        self.place = slow_copies(place, self.go_on).wrapped(WAITING % "status")
+        self.place = slow_copies(place, self.go_on).waiting("status")
         self.check_on = self.place.path("go on")
 
     def make(self) -> None:
         """Lets the hub make the copy, up to its check."""
         self.go_on.touch()
-        until("the copy is checked", self.place.path("begun").exists)
+        self.place.until_begun()
 
 
 @pytest.fixture
