@@ -10,6 +10,8 @@ from pathlib import Path
 import pytest
 
 from harness import SECONDS, Place, Ran
+from test_verify import days_of, first_file, head_of, rows_in, with_a_changed_row, without_a_row
+from test_verify import write_rows, write_snapshot
 import make_release as rf2
 
 CHECK = "examples/check_edition.py"
@@ -39,25 +41,12 @@ else:
 """
 
 
-def write_snapshot(package: Path) -> None:
-    """Writes the Snapshot of a package's Full: of each file the latest row of each component."""
-    for path in (package / "Full").rglob("*.txt"):
-        head, *rows = path.read_text("utf-8").splitlines()
-        latest: dict[str, str] = {}
-        for row in sorted(rows, key=lambda row: row.split("\t")[1]):
-            latest[row.split("\t")[0]] = row
-        text = "".join(row + "\r\n" for row in (head, *latest.values()))
-        to = package / "Snapshot" / path.relative_to(package / "Full").parent
-        to.mkdir(parents=True, exist_ok=True)
-        (to / path.name.replace("Full", "Snapshot")).write_text(text, encoding="utf-8", newline="")
-
-
 @pytest.fixture(scope="module")
 def sound(tried: Place) -> Path:
     """A sound package of all sorts of files."""
     package = tried.path("sound package")
     rf2.write_package(str(package / "Full"), rf2.Package(SEED), ROWS)
-    write_snapshot(package)
+    write_snapshot(package, days_of(package)[-1], "Snapshot")
     return package
 
 
@@ -109,38 +98,25 @@ def test_sound_package(place: Place, package: Path) -> None:
     assert [word for word in words if word in page] == []
 
 
-def without_a_row(package: Path) -> None:
-    path = next((package / "Snapshot").rglob("sct2_Description_*"))
-    lines = path.read_bytes().splitlines(keepends=True)
-    path.write_bytes(b"".join(lines[:-1]))
-
-
-def with_another_row(package: Path) -> None:
-    path = next((package / "Snapshot").rglob("der2_cRefset_Language*"))
-    path.write_bytes(path.read_bytes().replace(b"\t0\t", b"\t1\t", 1))
-
-
-def with_an_older_row(package: Path) -> None:
+def with_an_older_row(snapshot: Path) -> None:
     """A row is the version before the latest one."""
-    full = next((package / "Full").rglob("sct2_Concept_*"))
-    rows = [line.split("\t") for line in full.read_text("utf-8").splitlines()[1:]]
+    rows = rows_in(first_file(snapshot.parent / "Full", "C"))
     versions = sorted(row for row in rows if sum(row[0] == other[0] for other in rows) > 1)
-    older = versions[0]
-    later = max(row for row in versions if row[0] == older[0])
-    path = next((package / "Snapshot").rglob("sct2_Concept_*"))
-    text = path.read_text("utf-8").replace("\t".join(later), "\t".join(older))
-    path.write_text(text, encoding="utf-8", newline="")
+    later = max(row for row in versions if row[0] == versions[0][0])
+    path = first_file(snapshot, "C")
+    changed = [versions[0] if row == later else row for row in rows_in(path)]
+    write_rows(path, head_of(path), changed)
 
 
-def without_a_file(package: Path) -> None:
-    next((package / "Snapshot").rglob("*OWLExpression*")).unlink()
+def without_a_file(snapshot: Path) -> None:
+    first_file(snapshot, "OWLExpression").unlink()
 
 
 @pytest.mark.parametrize("change", (
-    without_a_row, with_another_row, with_an_older_row, without_a_file))
-def test_wrong_snapshots(place: Place, package: Path, change: Callable[[Path], None]) -> None:
+    without_a_row, with_a_changed_row, with_an_older_row, without_a_file))
+def test_wrong_snapshots(place: Place, package: Path, change: Callable[[Path], object]) -> None:
     """One kind differs of the Snapshot, and none as of the days of the Full."""
-    change(package)
+    change(package / "Snapshot")
     ran = checked(place, package, "--without-digest")
     one_differs(ran)
     said = " ".join(column(ran.output, "Snapshot"))

@@ -45,9 +45,9 @@ def latest(rows: Iterable[Row], day: str) -> list[Row]:
     return list(found.values())
 
 
-def write_snapshot(package: Path, day: str) -> Path:
+def write_snapshot(package: Path, day: str, name: str = "Snapshot_{}") -> Path:
     """Writes what a package's Full shows at a day, as the Snapshot of that day."""
-    to = package / f"Snapshot_{day}"
+    to = package / name.format(day)
     for path in (package / "Full").rglob("*.txt"):
         name = path.name.replace("Full", "Snapshot").rpartition("_")[0] + f"_{day}.txt"
         file = to / path.relative_to(package / "Full").parent / name
