@@ -10,7 +10,6 @@ import hashlib
 import itertools
 import os
 import random
-import re
 import shutil
 import subprocess
 import time
@@ -31,13 +30,9 @@ SEED = 48
 KILLS, KILLS_WHILE_WRITTEN = 50, 5
 # A moment is drawn from so much more than the time that a copy takes.
 MARGIN = 1.1
-# How many contradictions of a release are told, and modules that are new to a store.
-MOST_TOLD, MODULES_TOLD = 1_000, 10
-# How many concepts a store has of which warnings are told.
-KNOWN_ROWS = 100
-DATE, LATER = "20220131", "20220731"
-# More than a year after all others.
-FAR = "20240131"
+# How many contradictions of a release are told.
+MOST_TOLD = 1_000
+DATE = "20220131"
 DAMAGED, FAULT = ["ERR 8 Damaged"], "ERR 2 DiskFault"
 # The row of the guide's releases that stands first in the first segment, and another one.
 FIRST_QUESTION = "GET C 1000004 20200131"
@@ -150,44 +145,6 @@ def test_contradictions(place: Place) -> None:
     places, more = contradictions_told(place, store, range(1, MOST_TOLD + 6))
     assert len(places) == MOST_TOLD
     assert len(more) == 1 and " 5 " in more[0]
-
-
-def write_odd_releases(place: Place, strange: Sequence[int]) -> None:
-    """A release of which the first row is of a module that is its own concept, the others of the
-    core module, and releases to check and to import."""
-    more, own, known = KNOWN_ROWS + 1, concept_id(0), concept_id(1)
-    made = {
-        "known": [concept(0, DATE, module=own),
-                  *(concept(number, DATE) for number in range(1, KNOWN_ROWS))],
-        "plain": [concept(more, LATER), concept(more + 1, LATER, module=known),
-                  concept(more + 2, LATER, module=own),
-                  concept(more + 3, LATER, module=concept_id(more + 3))],
-        "far": [concept(more, LATER), concept(more + 1, FAR)],
-        "strange": [concept(more + number, LATER, module=one)
-                    for number, one in enumerate(reversed(strange))]}
-    for name, rows in made.items():
-        write_release(place.releases / name, {"C": rows, "D": [], "R": []}, LATER)
-
-
-def test_warnings(place: Place) -> None:
-    """A check and an import warn of times that are far off, and of modules whose concepts neither
-    the store nor the release has."""
-    strange = [concept_id(5 * KNOWN_ROWS + n) for n in range(MODULES_TOLD + 2)]
-    write_odd_releases(place, strange)
-    store, empty = place.make_store(), place.make_store("empty")
-    place.import_one(store, place.releases / "known")
-    names = ("known", "plain", "far", "strange")
-    assert [check_told(place, empty, name).faults for name in names] == [""] * len(names)
-    told = {name: check_told(place, store, name).faults.splitlines() for name in names}
-    assert told["known"] == told["plain"] == []
-    for name in ("far", "strange"):
-        assert len(told[name]) == 1 and told[name][0].startswith("sctd: warning: ")
-        copy = place.copy(store, f"for {name}")
-        imported = place.run("import", "--quiet", "--store", copy, place.releases / name)
-        assert imported.faults.splitlines() == told[name]
-    assert FAR in told["far"][0] and DATE in told["far"][0]
-    found = re.findall("[0-9]+", told["strange"][0])
-    assert found == [*map(str, strange[:MODULES_TOLD]), str(len(strange) - MODULES_TOLD)]
 
 
 # ---- A wrong release that is taken back

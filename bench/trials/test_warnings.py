@@ -6,6 +6,7 @@ by `import --check`, through the hub and, where a store isn't needed for it, by 
 from __future__ import annotations
 
 import datetime
+import re
 import shutil
 import zlib
 from collections import Counter
@@ -15,7 +16,8 @@ from typing import NamedTuple
 
 import pytest
 
-from harness import Client, Hub, Place
+from harness import Client, Hub, Place, concept_id
+from test_verify import first_file
 import make_release as rf2
 
 ROWS, SEED = 1_500, 5
@@ -26,6 +28,8 @@ DAYS = [f"{year}{day}" for year in range(2018, 2022) for day in ("0131", "0731")
 LATER_DAYS = [f"{year}{day}" for year in range(2018, 2022) for day in ("0331", "0930")]
 # One component of so many is of the second module.
 SHARE = 3
+# How many modules are named.
+MOST_NAMED = 10
 UNKEPT = set(rf2.UNKEPT_SORTS)
 WARNING = "sctd: warning: "
 UNKNOWN = WARNING + "modules of which neither the store nor the release has the concept: {}"
@@ -216,11 +220,23 @@ def change(path: Path, old: bytes, new: bytes) -> None:
     path.write_bytes(text.replace(old, new, 1))
 
 
+def with_a_stranger(release: Path) -> Path:
+    """A release with a row of a module of which nobody has the concept."""
+    change(first_file(release, "D"), str(rf2.CORE).encode(), str(STRANGER).encode())
+    return release
+
+
+def cut(release: Path) -> Path:
+    """A release whose file of maps lost the end of its last line."""
+    path = first_file(release, "SimpleMap")
+    path.write_bytes(path.read_bytes()[:-3])
+    return release
+
+
 def test_cut_file(place: Place, package: Package) -> None:
     """A file that lost the end of its last line, and perhaps more."""
-    delta = package.delta(0)
-    _, path = next(rf2.files_of(delta, ["SimpleMap"]))
-    path.write_bytes(path.read_bytes()[:-3])
+    delta = cut(package.delta(0))
+    path = first_file(delta, "SimpleMap")
     told = [f"{WARNING}{path.name}: its last line has no end; was the file cut off?"]
     store = place.make_store(layout=3)
     assert served(place, place.make_store("served", layout=3), delta) == told
@@ -233,8 +249,7 @@ def test_late_row(place: Place, package: Package) -> None:
     for days, is_told in ((2, True), (-2, False)):
         day = (now + datetime.timedelta(days=days)).strftime("%Y%m%d")
         store, delta = place.make_store(day, layout=3), package.delta(0)
-        _, path = next(rf2.files_of(delta, ["D"]))
-        change(path, DAYS[0].encode(), day.encode())
+        change(first_file(delta, "D"), DAYS[0].encode(), day.encode())
         told = warnings(place, store, delta)
         assert len(told) == is_told
         assert all(line.startswith(f"{WARNING}an effectiveTime is {day}, and today is ")
@@ -260,16 +275,26 @@ def test_stranger(place: Place, package: Package) -> None:
     store = place.make_store(layout=3)
     assert warnings(place, store, package.delta(0)) == []
     stranger = str(STRANGER).encode()
-    delta = package.delta(1)
-    _, path = next(rf2.files_of(delta, ["D"]))
-    change(path, str(rf2.CORE).encode(), stranger)
+    delta = with_a_stranger(package.delta(1))
     assert warnings(place, store, delta) == [UNKNOWN.format(STRANGER)]
     known = package.delta(2)
-    _, path = next(rf2.files_of(known, ["C"]))
+    path = first_file(known, "C")
     with path.open("ab") as file:
         file.write(b"%s\t%s\t1\t%s\t%d\r\n" % (stranger, DAYS[2].encode(), stranger, rf2.PRIMITIVE))
     assert warnings(place, store, known) == []
     assert warnings(place, store, delta) == []
+
+
+def test_many_strangers(place: Place, package: Package) -> None:
+    """Of many such modules the first ten are named, in their order, and how many more there are."""
+    store, delta = place.make_store(layout=3), package.delta(1)
+    assert warnings(place, store, package.delta(0)) == []
+    strangers = [str(concept_id(number)) for number in range(MOST_NAMED + 2)]
+    path = first_file(delta, "D")
+    for module in reversed(strangers):
+        change(path, str(rf2.CORE).encode(), module.encode())
+    told, = warnings(place, store, delta)
+    assert re.findall("[0-9]+", told) == [*strangers[:MOST_NAMED], "2"]
 
 
 def test_delta_left_out(place: Place, package: Package) -> None:
@@ -295,7 +320,7 @@ def test_missing_base(place: Place, package: Package) -> None:
 def test_inactive_dependency(place: Place, package: Package) -> None:
     """An extension that no longer builds on another module."""
     part = package.part(0, EXTENSION)
-    _, path = next(rf2.files_of(part, ["ModuleDependency"]))
+    path = first_file(part, "ModuleDependency")
     path.write_bytes(path.read_bytes().replace(b"\t1\t", b"\t0\t"))
     assert warnings(place, place.make_store(layout=3), part) == []
 
@@ -308,7 +333,7 @@ def test_base_of_an_earlier_layout(place: Place, package: Package) -> None:
     missing = [BUILDS.format(DAYS[1], module, later) for module in (rf2.MODEL, rf2.CORE)]
     for number, wanted in ((0, [unknown, *missing]), (1, [unknown])):
         part = package.part(number, rf2.CORE)
-        _, path = next(rf2.files_of(part, ["C"]))
+        path = first_file(part, "C")
         with path.open("ab") as file:
             for module in (rf2.MODEL, rf2.CORE):
                 file.write(b"%d\t%s\t1\t%d\t%d\r\n" % (module, DAYS[0].encode(), rf2.MODEL,
@@ -328,26 +353,12 @@ def notes_of(client: Client, line: str) -> list[str]:
     return [note.removeprefix("NOTE ") for note in notes]
 
 
-def with_a_stranger(release: Path) -> Path:
-    """A release with a row of a module of which nobody has the concept."""
-    _, path = next(rf2.files_of(release, ["D"]))
-    change(path, str(rf2.CORE).encode(), str(STRANGER).encode())
-    return release
-
-
-def cut(release: Path) -> Path:
-    """A release whose file of maps lost the end of its last line."""
-    _, path = next(rf2.files_of(release, ["SimpleMap"]))
-    path.write_bytes(path.read_bytes()[:-3])
-    return release
-
-
 def test_hub(place: Place, package: Package) -> None:
     """The hub's CHECK and IMPORT tell all, and one that isn't checked what needs no store, to who
     asks for notes; the log has it too. Sound releases are told nothing of."""
     store = place.make_store(layout=3)
     no_file = WARNING + "a file of concepts was taken, and no Language file"
-    maps = next(rf2.files_of(package.delta(2), ["SimpleMap"]))[1].name
+    maps = first_file(package.delta(2), "SimpleMap").name
     cut_off = f"{WARNING}{maps}: its last line has no end; was the file cut off?"
     missing = [BUILDS.format(DAYS[4], module, f" later than {DAYS[3]}")
                for module in (rf2.MODEL, rf2.CORE)]
@@ -384,7 +395,7 @@ def test_warnings_change_nothing(place: Place, package: Package) -> None:
     """The import of a release with every fault has its reply, status and rows."""
     release: Callable[[Path], Path] = lambda folder: without(without(folder, "A"), "Language")
     part = release(package.part(0, EXTENSION))
-    _, path = next(rf2.files_of(part, ["D"]))
+    path = first_file(part, "D")
     change(path, LATER_DAYS[0].encode(), b"29991231")
     path.write_bytes(path.read_bytes()[:-2])
     rows = sum(len(path.read_bytes().splitlines()) - 1 for path in part.rglob("*.txt"))
