@@ -5,18 +5,17 @@ import re
 import shutil
 from collections import Counter
 from pathlib import Path
-from typing import Iterable, NamedTuple, Optional, Sequence
+from typing import NamedTuple, Optional, Sequence
 
 import soak
 from case_texts import FOLDER
 from growths_harness import (ALL_BEHIND, ALONE, OUT_OF_MEMORY, Program, Refusals, told, try_each,
                              ways_to_be_refused)
-from harness import RELEASES, Place, Ran, Wrong, replies_in
-from soak_model import KINDS, SUBJECTS, File, Model, Reply
+from harness import RELEASES, TOP, Place, Ran, Wrong, replies_in
+from soak_model import KINDS, File, Model, Reply
 
 import make_release as rf2  # soak.py looks for it.
 
-SEED = 2
 REFUSED = [OUT_OF_MEMORY.strip()]
 # The lines that take no memory, and those that are refused for what they say: no such line is
 # refused because memory ran out.
@@ -34,60 +33,6 @@ LEAST, LEAST_STARTS = 1, 1
 TAKE_NONE = ("0 GET C 138875005 20230131",)
 
 
-class Session:
-    """Random lines, the store that they are served on, and their releases."""
-
-    def __init__(self, program: Program, folder: Path, count: int, seed: int) -> None:
-        self.made = soak.Soak(str(program.program), seed, str(folder))
-        self.store = Path(self.made.store)
-        layout = max(self.made.layout, "2")
-        Place(program.program, folder).done("init", "--store", self.store, "--layout", layout)
-        self.lines: list[str] = []
-        for _ in range(count):
-            self.lines.append(self.made.line())
-            self.made.model.reply(self.lines[-1])
-        self.lines += self.questions()
-
-    def questions(self) -> list[str]:
-        """What is asked behind the random lines, by a session that they don't pin."""
-        model, day, column = self.made.model, soak.LAST_DATE, self.made.column
-        concepts, refsets, imports = column("D", 4), column("M", 4), model.state.imports
-        forms: list[tuple[str, Iterable[object]]] = [
-            ("TERMS {day} 1000 {}", sorted({term[0].casefold() for term in column("D", 7)})),
-            ("CHILDREN {} {day}", column("R", 5)),
-            ("DESCENDANTS {} {day}", column("R", 5)[:5]),
-            ("ANCESTORS {} {day}", column("R", 4)[:5]),
-            ("REPLACED {} {day}", column("A", 5)),
-            ("REPLACES {} {day}", column("A", 6)[:5]),
-            ("MEMBERS {} {day} - 10", refsets), ("VALUES {} {day} - 3", refsets),
-            ("RECEIPT {}", range(1, imports + 1)), ("AT {} DATES", (0, imports))]
-        forms += [(f"CALLED {{}} {{day}} {language}", concepts[:20]) for language in rf2.LANGUAGES]
-        for kind, place in SUBJECTS.items():
-            forms += [(f"ABOUT {kind} {{}} {{day}}", column(kind, place)[:20]),
-                      (f"TIMELINE {kind} {{}}", column(kind, place)[:5])]
-        for kind in KINDS:
-            forms += [(f"HISTORY {kind} {{}}", self.made.names(kind)[:20]),
-                      (f"DELTA {kind} 20191231 {{}} - 10", [day])]
-        lines = ["10 " + form.format(value, day=day) for form, values in forms for value in values]
-        for line in lines:
-            model.reply(line)
-        return lines
-
-
-class Served(NamedTuple):
-    """What runs are made of: lines, the releases that they import, the store that each run begins
-    with, the lines that made it, whether it keeps all files of a release, and whether each line
-    that takes memory has to be refused in some run."""
-
-    lines: Sequence[str]
-    releases: Path
-    files: dict[str, list[File]]
-    store: Path
-    before: Sequence[str] = ()
-    keeps_all: bool = False
-    is_script: bool = False
-
-
 class Outcome(NamedTuple):
     """What came of a run: whether it was refused at its start, the places of the lines that were
     refused, and how many imports there are then."""
@@ -98,28 +43,30 @@ class Outcome(NamedTuple):
 
 
 class Runs:
-    """All runs on the same lines."""
+    """All runs on the same lines, on a store that some lines have made before."""
 
-    def __init__(self, program: Program, folder: Path, served: Served) -> None:
-        self.program, self.folder, self.served = program, folder, served
-        self.never = {line for line in served.lines if NEVER.match(line)
+    def __init__(self, program: Program, folder: Path, lines: Sequence[str], store: Path,
+                 before: Sequence[str] = ()) -> None:
+        self.program, self.folder, self.lines = program, folder, lines
+        self.store, self.before, self.files = store, before, samples()
+        self.never = {line for line in lines if NEVER.match(line)
                       or Model({}).reply(line)[-1].startswith(NONE_READ)}
-        self.untouched = served.store.read_bytes()
+        self.untouched = store.read_bytes()
         # The stores that were looked at, with what they have to hold.
         self.looked_at: set[tuple[bytes, str, str]] = set()
         self.outcomes: dict[int, list[Outcome]] = {ALONE: [], IN_A_ROW: [], ALL_BEHIND: []}
 
     def model(self) -> Model:
         """The model of the store that a run begins with."""
-        model = Model(self.served.files, self.served.keeps_all)
-        for line in self.served.before:
+        model = Model(self.files, keeps_all=True)
+        for line in self.before:
             model.reply(line)
         model.state, model.pins = model.state.reopened(), {}
         return model
 
     def serve(self, folder: Path, lines: Sequence[str],
               refusals: Optional[Refusals] = None) -> tuple[Ran, bool]:
-        words = ["serve", "--store", "store", "--releases", str(self.served.releases)]
+        words = ["serve", "--store", "store", "--releases", str(self.folder / "releases")]
         given = "".join(line + "\n" for line in lines)
         return self.program.run(words, folder, given, refusals)
 
@@ -139,7 +86,7 @@ class Runs:
         """What comes of a run; none where no request was refused in it."""
         folder = self.folder / ("place%d" % place)
         folder.mkdir(exist_ok=True)
-        shutil.copyfile(self.served.store, folder / "store")
+        shutil.copyfile(self.store, folder / "store")
         ran, was_refused = self.serve(folder, lines, refusals)
         replies = replies_in(ran.output)
         model = self.model()
@@ -170,7 +117,7 @@ class Runs:
 
     def run(self, place: int, refusals: Refusals) -> bool:
         """Makes a run; whether a request was refused in it."""
-        outcome = self.outcome(place, self.served.lines, refusals)
+        outcome = self.outcome(place, self.lines, refusals)
         if outcome is None:
             return False
         self.outcomes[refusals.how_many].append(outcome)
@@ -180,7 +127,7 @@ class Runs:
 
     def run_again(self, place: int, refusals: Refusals, at: int) -> None:
         """The same, but that the line which is refused comes twice: so it is answered then."""
-        lines = [*self.served.lines[:at + 1], *self.served.lines[at:]]
+        lines = [*self.lines[:at + 1], *self.lines[at:]]
         outcome = self.outcome(place, lines, refusals)
         if outcome is None or list(outcome.refused) != [at]:
             raise Wrong("%r comes twice: %s" % (lines[at], outcome))
@@ -193,7 +140,7 @@ class Runs:
             except Wrong as wrong:
                 print("WRONG with %d refused: %s" % (count, wrong))
                 return False
-        print("lines %d" % len(self.served.lines))
+        print("lines %d" % len(self.lines))
         alone, several = self.outcomes[ALONE], self.outcomes[IN_A_ROW] + self.outcomes[ALL_BEHIND]
         starts = sum(outcome.is_start for outcome in alone)
         refused = sum(len(outcome.refused) for outcome in alone)
@@ -210,15 +157,15 @@ class Runs:
         return self.is_each_refused(alone)
 
     def is_each_refused(self, alone: Sequence[Outcome]) -> bool:
-        """Whether each line of a script that takes memory was refused in some run of these, each of
-        which refuses one request; prints how often that was, of the line for which it is least."""
+        """Whether each line that takes memory was refused in some run of these, each of which
+        refuses one request; prints how often that was, of the line for which it is least."""
         counts = Counter(place for outcome in alone for place in outcome.refused)
-        taking = [place for place, line in enumerate(self.served.lines)
+        taking = [place for place, line in enumerate(self.lines)
                   if line not in self.never and line not in TAKE_NONE]
         least = min(taking, key=lambda place: counts[place])
-        line = self.served.lines[least]
+        line = self.lines[least]
         print("refusals of %r, fewer than of any other line: %d" % (line, counts[least]))
-        if self.served.is_script and counts[least] < LEAST:
+        if counts[least] < LEAST:
             print("NOT TRIED: %d refusals of it are wanted" % LEAST)
             return False
         return True
@@ -252,6 +199,10 @@ MORE = """1 UNPIN
 0 ABOUT R 1000004 20210131
 0 ABOUT A 1000004 20210131
 0 SEARCH 20200131 - 10 STRASS
+0 WORDS 20200131 - 0 10 STRA
+0 SOURCES 116680003 138875005 20210131 - 10
+0 ROWS D - - 10
+0 ADDED 2 C - - 10
 0 RECEIPT 2
 0 DELTA C 20200131 20210131 - 10
 0 DELTA D 20200131 20210131 - 10
@@ -266,33 +217,34 @@ MORE = """1 UNPIN
 0 CHECK r2
 0 DIGEST"""
 QUESTIONS = SAID[SAID.index("0 PUBLISH") + 1 :] + MORE.split("\n")
-# A release that was imported before, which has no new rows, and the merge of what is left.
-AGAIN = ["0 IMPORT r1", "0 MERGE", "0 STEP 100", "0 PUBLISH", "0 TRIM"]
+# A release that was imported before, which has no new rows, and the merge of what is left; and a
+# package with members of reference sets.
+AGAIN = ["0 IMPORT r1", "0 MERGE", "0 STEP 100", "0 PUBLISH", "0 TRIM", "0 IMPORT whole",
+         "0 MEMBERS 900000000000509007 20210131 - 10", "0 VALUES 900000000000509007 20210131 - 3",
+         "0 CALLED 2000001 20200630 900000000000509007"]
+FOLDERS = {"whole": TOP / "docs" / "package" / "Full",
+           **{folder.name: folder for folder in RELEASES.iterdir()}}
 
 
 def samples() -> dict[str, list[File]]:
-    """The files of each release that the demonstration imports, as the model takes them."""
-    kinds = sorted(rf2.KINDS, key=soak.place_of)
-    return {folder.name: [File(kind, True, list(rf2.rows_of(folder, kind))) for kind in kinds]
-            for folder in RELEASES.iterdir()}
+    """The files of each release that the lines import, as the model takes them."""
+    sorts = sorted(rf2.BASIC_SORTS | rf2.FURTHER_SORTS, key=soak.place_of)
+    return {name: [File(rf2.SORTS[sort].kind, True, rows) for sort in sorts
+                   if (rows := list(rf2.rows_of(folder, sort)))]
+            for name, folder in FOLDERS.items()}
 
 
-def runs_of_script(program: Program, folder: Path, releases: Path,
-                   files: dict[str, list[File]]) -> list[Runs]:
-    """The runs of the demonstration's lines, and of its questions on the store that it leaves."""
-    empty, full = folder / "empty", folder / "full"
+def are_right(program: Program, folder: Path) -> bool:
+    """Makes the runs of the demonstration's lines, and of its questions on the store that it
+    leaves; whether each was as it has to be."""
+    empty, full, releases = (folder / name for name in ("empty", "full", "releases"))
+    releases.mkdir()
+    for name, path in FOLDERS.items():
+        (releases / name).symlink_to(path)
     Place(program.program, folder).done("init", "--store", empty)
-    script = Runs(program, folder, Served(CHANGES + QUESTIONS + AGAIN, releases, files, empty,
-                                          keeps_all=True, is_script=True))
+    script = Runs(program, folder, CHANGES + QUESTIONS + AGAIN, empty)
     shutil.copyfile(empty, folder / "store")
     script.serve(folder, CHANGES)
     (folder / "store").rename(full)
-    asked = Served(QUESTIONS, releases, files, full, CHANGES, keeps_all=True, is_script=True)
-    return [script, Runs(program, folder, asked)]
-
-
-def runs_of_session(program: Program, folder: Path, count: int, seed: int) -> list[Runs]:
-    session = Session(program, folder, count, seed)
-    made = session.made.releases
-    return [Runs(program, folder, Served(session.lines, Path(made.folder), made.files,
-                                         session.store, keeps_all=session.made.model.keeps_all))]
+    asked = Runs(program, folder, QUESTIONS, full, CHANGES)
+    return all([each.are_right() for each in (script, asked)])

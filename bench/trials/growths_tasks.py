@@ -7,7 +7,7 @@ from typing import Mapping, NamedTuple, Optional
 
 from growths_harness import (ALL_BEHIND, DISK_FAULT, OUT_OF_MEMORY, Program, Refusals, told,
                              try_each, ways_to_be_refused)
-from harness import Place, Ran, Wrong, replies_in
+from harness import RELEASES, Place, Ran, Wrong, replies_in
 
 # The files in a folder, by their names.
 Files = Mapping[str, bytes]
@@ -231,7 +231,7 @@ def are_right(program: Program, folder: Path) -> bool:
     """Makes the runs of all tasks, and prints what came; whether each was as it has to be."""
     work = folder / "tasks"
     work.mkdir()
-    (work / "releases").symlink_to(folder / "releases")
+    (work / "releases").symlink_to(RELEASES)
     made = work / "made"
     made.mkdir()
     stores = stores_in(program, made)

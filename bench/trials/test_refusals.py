@@ -11,11 +11,10 @@ from typing import NamedTuple, Sequence
 
 import pytest
 
-import growths_lines
 import growths_room
 from growths_harness import Program
-from growths_lines import Runs, Served
-from harness import RELEASES, Place, Ran
+from growths_lines import Runs
+from harness import Place, Ran
 from soak_model import Model, Reply
 
 LINES = ["0 STATUS", "0 IMPORT r1", "0 GET C 1000004 20200131"]
@@ -89,9 +88,8 @@ def test_lines(place: Place, monkeypatch: pytest.MonkeyPatch, capsys: pytest.Cap
     # (That many lines are refused in one run can't be wanted of so few.)
     change(monkeypatch, {"growths_lines.MANY": 1, **fault.changes})
     store = place.make_store("empty", layout=3)
-    served = Served(LINES, RELEASES, growths_lines.samples(), store, keeps_all=True,
-                    is_script=True)
-    runs = Runs(Program(place.program, place.folder), place.folder, served)
+    place.link_releases("r1")
+    runs = Runs(Program(place.program, place.folder), place.folder, LINES, store)
     is_told(fault, runs.are_right(), capsys.readouterr().out)
 
 
