@@ -30,7 +30,7 @@ SCRIPTS: list[tuple[str, ...]] = [
     ("trials/by_pytest.py", "files", "cache", "syncs"),
     ("trials/by_pytest.py", "sessions", "crowds", "digests", "openings"),
     ("trials/by_pytest.py", "duties", "copies"),
-    ("trials/by_pytest.py", "checks", "verify", "warnings"),
+    ("trials/by_pytest.py", "checks", "verify", "prepare", "warnings"),
     ("trials/by_pytest.py", "imports", "lists"),
     ("trials/by_pytest.py", "readers", "exports", "editions"),
     ("trials/by_pytest.py", "operators"),
