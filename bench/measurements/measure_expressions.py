@@ -21,12 +21,12 @@ from typing import NamedTuple, Self
 from urllib.parse import urlencode
 
 import make_release as rf2
-from measure_gateway import (
-    HUB, MS, UnixHttp, begin_gateway, begin_hub, concepts, make_store, options_of)
+from measure_clients import (
+    MS, UnixHttp, begin_gateway, begin_hub, concepts, make_store, options_of)
 from measure_harness import MANY_ROWS, child_of, made_release, print_head, print_row
 from measure_harness import processor_seconds
 from harness import tell
-from proxy_harness import Process, need, stop  # measure_gateway.py looks for it.
+from proxy_harness import Process, need, stop  # measure_clients.py looks for it.
 
 SCT = "http://snomed.info/sct"
 DAYS = 7
@@ -158,7 +158,7 @@ def tried(options: argparse.Namespace) -> None:
 
 def main() -> int:
     options = options_of(__doc__, rows=MANY_ROWS, days=DAYS).parse_args()
-    options.package, options.hub = True, HUB
+    options.package = True
     return tell(lambda: tried(options))
 
 

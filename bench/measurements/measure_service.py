@@ -5,11 +5,12 @@ measure_service.py PROGRAM [--rows N] [--seconds N] [--restarts N]
 
 PROGRAM is the built `sctd`. A store is made of a release of N rows (440,000 if not said). Then
 
-- 64 clients ask the hub one question at a time, as measure_hub.py has it;
+- 1, 8 and 64 clients ask the hub one question at a time, each as soon as it has the reply before;
 - 64 clients ask nginx, as packaging/nginx.conf has it, for $lookup of any code on any day, which
   the gateways don't remember;
-- the same is asked of one gateway by one client, alone and beside three others that ask for large
-  expansions;
+- the same is asked of one gateway by one client and by 16, also of 200 codes on one day, whose
+  replies are remembered; by one client two words are searched, as the page does while one types;
+- the same as by one client, beside three others that ask for large expansions;
 - the gateways are started again in turn, so many times as is said (100), while four clients ask
   nginx: what isn't answered with 200 or 404 is counted as lost.
 
@@ -30,20 +31,22 @@ import socket
 import ssl
 import sys
 import time
-from collections.abc import Callable
+from collections.abc import Callable, Sequence
 from pathlib import Path
 
 sys.path.append(str(Path(__file__).resolve().parents[1] / "trials"))
-from measure_gateway import (  # noqa: E402
+from measure_clients import (  # noqa: E402
     MS, VERSION, YEARS, Asked, Connection, HttpClient, HubClient, Taken, concepts, lookup,
-    make_store, options_of, question, request)
+    make_store, options_of, question, request, search, terms_of)
 from measure_harness import child_of, print_head, print_row  # noqa: E402
-from harness import Threads, tell  # noqa: E402
+from harness import Threads, children, tell, until  # noqa: E402
 from proxy_harness import (  # noqa: E402
     HOST, NGINX, OPENSSL, Client, Process, Proxy, free_ports, gateway_words, hub_words,
     need, open_folder, ready, stop)
 
-GATEWAYS, CLIENTS, EXPANDING, RESTARTED = 3, 64, 3, 4
+GATEWAYS, EXPANDING, RESTARTED = 3, 3, 4
+# How many clients ask the hub, at most, and one gateway; and how many codes are remembered.
+OF_HUB, OF_GATEWAY, FEW_CODES = (1, 8, 64), 16, 200
 DEFAULT_ROWS, DEFAULT_SECONDS, DEFAULT_RESTARTS = 440_000, 5, 100
 PAGE = 1_000
 # How long between the restarts of two gateways.
@@ -94,6 +97,7 @@ class Service:
         folder.mkdir()
         make_store(options, str(place), str(folder / "terms"))
         self.codes, self.days = concepts(str(place)), ["%d0731" % year for year in YEARS]
+        self.terms = terms_of(str(place))
         self.addresses = ["%s:%d" % (HOST, port) for port in free_ports(GATEWAYS)]
         self.proxy = Proxy(place, self.addresses)
         sockets = ("--questions", str(self.questions))
@@ -115,9 +119,10 @@ class Service:
     def processes(self) -> dict[str, int]:
         """The processes that answer, by their names."""
         assert self.proxy.process
+        master = self.proxy.process.pid
+        until("a worker of nginx", lambda: children(master))
         gateways = {"gateway %d" % place: one.pid for place, one in enumerate(self.gateways, 1)}
-        nginx = child_of(self.proxy.process.pid)
-        return {"nginx": nginx, **gateways, "hub": self.hub.pid, "program": child_of(self.hub.pid)}
+        return {"nginx": child_of(master), **gateways, "hub": self.hub.pid, "program": child_of(self.hub.pid)}
 
     def measured(self, name: str, client: type[Connection], path: str, make: Callable[[], bytes],
                  clients: int) -> None:
@@ -128,10 +133,25 @@ class Service:
         print_row(name, "%.0f" % taken.rate, "%.1f" % taken.median, "%.1f" % taken.p99, spent,
                   behind=taken.refused)
 
+    def alone(self) -> None:
+        """Clients of the hub, of nginx and of one gateway."""
+        one, first = functools.partial(question, self.codes, self.days), self.addresses[0]
+        for clients in OF_HUB:
+            self.measured("the hub, clients: %d" % clients, HubClient, str(self.questions), one,
+                          clients)
+        self.measured("$lookup by nginx, clients: %d" % OF_HUB[-1], Tls, self.tls, self.any_code(),
+                      OF_HUB[-1])
+        few = functools.partial(lookup, self.codes[:FEW_CODES], self.days[-1:])
+        words = functools.partial(search, self.terms, self.days)
+        asked: Sequence[tuple[str, Callable[[], bytes], int]] = (
+            ("$lookup, remembered", few, OF_GATEWAY), ("$lookup", self.any_code(), OF_GATEWAY),
+            ("a search by words", words, 1), ("$lookup", self.any_code(), 1))
+        for name, make, clients in asked:
+            self.measured("%s, clients: %d" % (name, clients), Tcp, first, make, clients)
+
     def beside(self) -> None:
-        """A client of one gateway, alone and beside large expansions."""
+        """A client of one gateway beside large expansions."""
         first = self.addresses[0]
-        self.measured("$lookup, 1 client", Tcp, first, self.any_code(), 1)
         make = functools.partial(expansion, self.days[-1])
         expanding = Asked(Tcp, first, make, EXPANDING - 1, self.options.seconds + 1)
         third = Asked(Tcp, first, make, 1, self.options.seconds + 1)
@@ -181,11 +201,7 @@ def tried(options: argparse.Namespace) -> None:
     need(NGINX.name, OPENSSL)
     with open_folder() as place, contextlib.closing(Service(options, place)) as service:
         print_head("Asked", "a second", "median ms", "p99 ms", "processor us")
-        one = functools.partial(question, service.codes, service.days)
-        service.measured("the hub, %d clients" % CLIENTS, HubClient, str(service.questions),
-                         one, CLIENTS)
-        service.measured("$lookup by nginx, %d clients" % CLIENTS, Tls, service.tls,
-                         service.any_code(), CLIENTS)
+        service.alone()
         service.beside()
         service.restarted()
         print("load %.1f on %d processors" % (os.getloadavg()[0], os.cpu_count() or 0))

@@ -1,18 +1,9 @@
-"""Measures the gateway, the hub and the program below them while clients ask.
-
-measure_gateway.py PROGRAM [--rows N] [--seconds N] [--hub PATH] [--package]
-
-$lookup is asked by 1 and by 16 clients, of random codes on random days, and of 200 codes on one
-day, whose replies are remembered; and the first letters of two words of a term are searched by 1
-client, as the page does while one types. Clients are two processes, which need a processor of their
-own. With --package the release is a whole package in a store of layout 3, and the gateway has a
-language, so $lookup asks for preferred terms and members too.
-"""
+"""What measure_service.py and measure_expressions.py share: a store with a made release, a hub and a
+gateway, and clients that ask as fast as they are answered, in two processes, which need a processor
+of their own."""
 
 import argparse
-import contextlib
 import datetime
-import functools
 import http.client
 import multiprocessing
 import os
@@ -29,24 +20,18 @@ from pathlib import Path
 from urllib.parse import urlencode
 
 import make_release as rf2
-from measure_harness import absolute, child_of, made_release, print_head, print_row, seconds_used
+from measure_harness import absolute, made_release, seconds_used
 
 sys.path.append(str(Path(__file__).resolve().parents[1] / "trials"))
-from harness import tell  # noqa: E402
-from proxy_harness import (  # noqa: E402
-    EDITION, SERVICE, Process, gateway_words, hub_words, need, open_folder, ready, stop)
+from proxy_harness import EDITION, Process, gateway_words, hub_words, ready  # noqa: E402
 
 PROCESSES = 2
-FEW_CODES = 200
 YEARS = range(2016, 2026)
 READ_BYTES = 1 << 18
 VERSION = "http://snomed.info/sct/%s/version/" % EDITION
 US_ENGLISH = "900000000000509007"
 # Where a description has its term, and how many letters of a word are typed.
 TERM, TYPED = 7, 3
-# What is measured where nothing else is said: rows, and seconds a line of the table.
-DEFAULT_ROWS, DEFAULT_SECONDS = 2_350_000, 5
-HUB = str(SERVICE / "sctd-hub")
 MS, US = 1e3, 1e6
 LAST_LINES = (b"OK", b"END", b"ERR")
 # The ends of an HTTP head, and what says how long its body is.
@@ -185,9 +170,6 @@ class Taken:
         self.spent = [one / len(waits) * US for one in used]
         self.refused = " %d refused" % wrong if wrong else ""
 
-    def spent_by_each(self) -> str:
-        return " / ".join("%.0f" % one for one in self.spent)
-
 
 class UnixHttp(http.client.HTTPConnection):
     """HTTP over a Unix socket."""
@@ -218,39 +200,13 @@ def make_store(options: argparse.Namespace, folder: str, store: str) -> None:
 
 
 def begin_hub(options: argparse.Namespace, folder: str, store: str, path: str) -> Process:
-    python, _, *words = hub_words(options.program, Path(store), Path(folder), "--socket", path)
-    return ready([python, options.hub, *words], Path(folder, "log"))
+    words = hub_words(options.program, Path(store), Path(folder), "--socket", path)
+    return ready(words, Path(folder, "log"))
 
 
 def begin_gateway(options: argparse.Namespace, hub: str, path: str) -> Process:
     languages = ["--languages", US_ENGLISH] if options.package else []
     return ready(gateway_words(Path(hub), path, *languages), Path(hub).with_name("log"))
-
-
-def tried(options: argparse.Namespace) -> None:
-    need()
-    with contextlib.ExitStack() as stack:
-        folder = str(stack.enter_context(open_folder()))
-        store, hub_socket, place = (os.path.join(folder, name) for name in ("store", "hub", "http"))
-        make_store(options, folder, store)
-        codes, days = concepts(folder), ["%d0731" % year for year in YEARS]
-        hub = begin_hub(options, folder, store, hub_socket)
-        stack.callback(stop, hub)
-        gateway = begin_gateway(options, hub_socket, place)
-        stack.callback(stop, gateway)
-        pids = [gateway.pid, hub.pid, child_of(hub.pid)]
-        few = random.Random(1).sample(codes, min(FEW_CODES, len(codes)))
-        any_code = functools.partial(lookup, codes, days)
-        one_day = functools.partial(lookup, few, days[-1:])
-        words = functools.partial(search, terms_of(folder), days)
-        print_head("Asked", "Clients", "a second", "median ms",
-                   "processor us: gateway / hub / program")
-        for name, make, clients in (
-                ("$lookup", any_code, 1), ("$lookup", any_code, 16),
-                ("$lookup, remembered", one_day, 16), ("a search by words", words, 1)):
-            taken = Taken(pids, HttpClient, place, make, clients, options.seconds)
-            print_row(name, clients, "%.0f" % taken.rate, "%.2f" % taken.median,
-                      taken.spent_by_each(), behind=taken.refused)
 
 
 def options_of(doc: str | None, **numbers: int) -> argparse.ArgumentParser:
@@ -261,15 +217,3 @@ def options_of(doc: str | None, **numbers: int) -> argparse.ArgumentParser:
         parser.add_argument("--" + name, type=int, default=usual)
     parser.set_defaults(package=False)
     return parser
-
-
-def main() -> int:
-    words = options_of(__doc__, rows=DEFAULT_ROWS, seconds=DEFAULT_SECONDS)
-    words.add_argument("--hub", type=absolute, default=HUB)
-    words.add_argument("--package", action="store_true")
-    options = words.parse_args()
-    return tell(lambda: tried(options))
-
-
-if __name__ == "__main__":
-    sys.exit(main())
