@@ -186,6 +186,12 @@ class Place:
         path.write_text(before.replace(old, new), encoding="utf-8")
         return place
 
+    def stopping(self, file: str, before: str, unless: str) -> Place:
+        """The same with a hub that waits before a line of a file until something is so."""
+        indent = before[: len(before) - len(before.lstrip())]
+        wait = f"{indent}while not ({unless}):\n{indent}    __import__('time').sleep(0.01)\n"
+        return self.changed(file, before, wait + before)
+
     def wrapped(self, script: str) -> Place:
         """The same with a program that a Python script stands before; PROGRAM is the real one."""
         place = self.below("wrapped")

@@ -67,18 +67,14 @@ def test_bad_copies(place: Place, store: Path, change: Callable[[Place, Path], o
 
 # What a file of somebody else has.
 FOREIGN = b"somebody else's"
-# Before each part of a backup the hub waits until there is a file.
+# Before each part of a backup the hub waits until there is a file, or it is stopped.
 COPYING = "                self.go_on()\n"
-SLOWLY = """\
-                while not (made.path == self.copy or self.is_stopped.wait(0.01)
-                           or os.path.exists(%r)):
-                    pass
-"""
+SLOWLY = "made.path == self.copy or self.is_stopped.is_set() or os.path.exists(%r)"
 
 
 def slow_copies(place: Place, go_on: Path) -> Place:
     """The same with backups that wait for the file of this name."""
-    return place.changed("store.py", COPYING, SLOWLY % str(go_on) + COPYING)
+    return place.stopping("store.py", COPYING, SLOWLY % str(go_on))
 
 
 def begin_copy(client: Client, path: Path) -> None:

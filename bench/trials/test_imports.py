@@ -28,12 +28,8 @@ DIGEST = ("cd \"$1\" && find -L Terminology Refset -maxdepth 2 -type f -print0 2
 # How often a hub is killed, and after how many seconds at most since its first import.
 KILLS, KILL_SECONDS = 50, 0.15
 SEED = 11
-# Lines of the hub's code, and what lets one wait until there is a file.
+# Lines of the hub's code.
 DIGESTING, SYNCING = "                digest.update(part)\n", "            os.fsync(number)\n"
-WAITING = """\
-{indent}while not os.path.exists({path!r}):
-{indent}    __import__("time").sleep(0.01)
-{indent}"""
 
 
 def digest_of(release: Path) -> str:
@@ -136,9 +132,7 @@ def test_the_list(place: Place) -> None:
 
 def waiting(place: Place, before: str) -> Place:
     """The same with a hub that waits for the file `go on` before a line of its code."""
-    indent = before[: len(before) - len(before.lstrip())]
-    wait = WAITING.format(indent=indent, path=str(place.path("go on")))
-    return place.changed("imports.py", before, wait + before.lstrip())
+    return place.stopping("imports.py", before, f"os.path.exists({str(place.path('go on'))!r})")
 
 
 @pytest.mark.parametrize("before", (DIGESTING, SYNCING))
