@@ -1,11 +1,23 @@
 -- The laws of the checksum.
 use Rattle.std.proofs.Common.{◌≡◌, ℕ, ◌<◌, ◌^◌, ◌∷◌, ◌++◌, List, ap, ◌∙◌, sym, arith}
 use Rattle.std.specs.Prelude.{bit_xor}
-use Rattle.std.specs.List.{fold, AllByRecursion}
+use Rattle.std.specs.List.{fold}
 use Rattle.std.proofs.lemmas.List.Sums.{fold-append}
 use Rattle.std.proofs.lemmas.Nat.{xor_lt}
-use Rattle.checksum.specs.Crc32c.{continued, crc32c, with_byte, OneByteIsNoticed, IsNumberOf32Bits}
-use Rattle.checksum.proofs.Registers.{xor_same_right, fold_same, fold_small, byte_same, taken_small}
+use Rattle.checksum.specs.Crc32c.{continued, crc32c, with_byte, GoesOn, OneByteIsNoticed, IsNumberOf32Bits}
+use Rattle.checksum.proofs.Registers.{turned_back, xor_same_right, fold_same, fold_small, byte_same, taken_small}
+
+-- after bytes and then others, the checksum is that after both at once
+pub continued_on : (crc : ℕ) (bytes others : List ℕ) → continued (continued crc bytes) others ≡ continued crc (bytes ++ others)
+unfolding continued
+continued_on crc bytes others =
+    let start = bit_xor crc 0xFFFFFFFF in
+    ap (λ r. bit_xor (fold with_byte r others) 0xFFFFFFFF) (turned_back (fold with_byte start bytes))
+    ∙ ap (λ r. bit_xor r 0xFFFFFFFF) (sym (fold-append with_byte start bytes others))
+
+pub goes_on : GoesOn
+unfolding crc32c
+goes_on bytes others = continued_on 0 bytes others
 
 pub one_byte_is_noticed : OneByteIsNoticed
 unfolding continued crc32c

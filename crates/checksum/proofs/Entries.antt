@@ -1,69 +1,35 @@
--- Each table has what becomes of a byte as it is shifted out, by computing.
-use Rattle.std.proofs.Common.{◌≡◌, ℕ, ◌<◌, List, get_or, map, refl, ap, ◌∙◌, arith}
+-- The tables have what becomes of a register of one byte as it takes in zero bytes, by computing.
+use Rattle.std.proofs.Common.{◌≡◌, ℕ, ◌+◌, ◌*◌, ◌/◌, ◌%◌, ◌^◌, ◌<◌, List, get_or, map, refl, ap, ◌∙◌, arith}
 use Rattle.std.specs.List.{range_with_len}
 use Rattle.std.proofs.lemmas.List.FromFn.{get_or-map-range_with_len}
 use Rattle.checksum.specs.Crc32c.{shifted, shifted_by}
-use Rattle.checksum.specs.declared.tables.TheConstants.{AFTER_8, AFTER_16, AFTER_24, AFTER_32, AFTER_40, AFTER_48, AFTER_56, AFTER_64}
+use Rattle.checksum.specs.declared.tables.TheConstants.{AFTER_ZEROS, AFTER_64_ZEROS}
 
--- what becomes of each byte as n bits are shifted out
-abbrev shifted_bytes : ℕ → List ℕ
-shifted_bytes n = map (shifted_by n) (range_with_len 0 256)
+-- what a table has at each place that begins with `bits`: 256 numbers for each count of zero bytes
+abbrev entry_at : ℕ → ℕ → ℕ
+entry_at bits place = shifted_by (bits + 8 * (place / 256)) (place % 256 * 2 ^ 24)
 
-entry : (table : List ℕ) (n i d : ℕ) → table ≡ shifted_bytes n → i < 256 → get_or table i d ≡ shifted_by n i
-entry table n i d is small = ap (λ (t : List ℕ). get_or t i d) is ∙ get_or-map-range_with_len (shifted_by n) 0 256 i i d small (omega arith)
+entry : (table : List ℕ) (bits len zeros byte d : ℕ) → table ≡ map (entry_at bits) (range_with_len 0 len) → byte < 256 → 256 * zeros + byte < len → get_or table (256 * zeros + byte) d ≡ shifted_by (bits + 8 * zeros) (byte * 2 ^ 24)
+entry table bits len zeros byte d is small within =
+    let row : (256 * zeros + byte) / 256 ≡ zeros = omega (arith, small) in
+    let column : (256 * zeros + byte) % 256 ≡ byte = omega (arith, small) in
+    ap (λ (t : List ℕ). get_or t (256 * zeros + byte) d) is
+    ∙ get_or-map-range_with_len (entry_at bits) 0 len (256 * zeros + byte) (256 * zeros + byte) d within (omega arith)
+    ∙ ap (λ n. shifted_by (bits + 8 * n) ((256 * zeros + byte) % 256 * 2 ^ 24)) row
+    ∙ ap (λ n. shifted_by (bits + 8 * zeros) (n * 2 ^ 24)) column
 
-table_8 : AFTER_8 ≡ shifted_bytes 8
+near_table : AFTER_ZEROS ≡ map (entry_at 0) (range_with_len 0 5120)
 unfolding shifted shifted_by
-table_8 = refl
+near_table = refl
 
-pub entry_8 : (i d : ℕ) → i < 256 → get_or AFTER_8 i d ≡ shifted_by 8 i
-entry_8 i d small = entry AFTER_8 8 i d table_8 small
-
-table_16 : AFTER_16 ≡ shifted_bytes 16
+far_table : AFTER_64_ZEROS ≡ map (entry_at 512) (range_with_len 0 1024)
 unfolding shifted shifted_by
-table_16 = refl
+far_table = refl
 
-pub entry_16 : (i d : ℕ) → i < 256 → get_or AFTER_16 i d ≡ shifted_by 16 i
-entry_16 i d small = entry AFTER_16 16 i d table_16 small
+pub near_entry : (zeros byte d : ℕ) → zeros < 20 → byte < 256 → get_or AFTER_ZEROS (256 * zeros + byte) d ≡ shifted_by (8 * zeros) (byte * 2 ^ 24)
+near_entry zeros byte d few small =
+    let bits : 0 + 8 * zeros ≡ 8 * zeros = omega arith in
+    entry AFTER_ZEROS 0 5120 zeros byte d near_table small (omega (arith, few, small)) ∙ ap (λ n. shifted_by n (byte * 2 ^ 24)) bits
 
-table_24 : AFTER_24 ≡ shifted_bytes 24
-unfolding shifted shifted_by
-table_24 = refl
-
-pub entry_24 : (i d : ℕ) → i < 256 → get_or AFTER_24 i d ≡ shifted_by 24 i
-entry_24 i d small = entry AFTER_24 24 i d table_24 small
-
-table_32 : AFTER_32 ≡ shifted_bytes 32
-unfolding shifted shifted_by
-table_32 = refl
-
-pub entry_32 : (i d : ℕ) → i < 256 → get_or AFTER_32 i d ≡ shifted_by 32 i
-entry_32 i d small = entry AFTER_32 32 i d table_32 small
-
-table_40 : AFTER_40 ≡ shifted_bytes 40
-unfolding shifted shifted_by
-table_40 = refl
-
-pub entry_40 : (i d : ℕ) → i < 256 → get_or AFTER_40 i d ≡ shifted_by 40 i
-entry_40 i d small = entry AFTER_40 40 i d table_40 small
-
-table_48 : AFTER_48 ≡ shifted_bytes 48
-unfolding shifted shifted_by
-table_48 = refl
-
-pub entry_48 : (i d : ℕ) → i < 256 → get_or AFTER_48 i d ≡ shifted_by 48 i
-entry_48 i d small = entry AFTER_48 48 i d table_48 small
-
-table_56 : AFTER_56 ≡ shifted_bytes 56
-unfolding shifted shifted_by
-table_56 = refl
-
-pub entry_56 : (i d : ℕ) → i < 256 → get_or AFTER_56 i d ≡ shifted_by 56 i
-entry_56 i d small = entry AFTER_56 56 i d table_56 small
-
-table_64 : AFTER_64 ≡ shifted_bytes 64
-unfolding shifted shifted_by
-table_64 = refl
-
-pub entry_64 : (i d : ℕ) → i < 256 → get_or AFTER_64 i d ≡ shifted_by 64 i
-entry_64 i d small = entry AFTER_64 64 i d table_64 small
+pub far_entry : (more byte d : ℕ) → more < 4 → byte < 256 → get_or AFTER_64_ZEROS (256 * more + byte) d ≡ shifted_by (512 + 8 * more) (byte * 2 ^ 24)
+far_entry more byte d few small = entry AFTER_64_ZEROS 512 1024 more byte d far_table small (omega (arith, few, small))

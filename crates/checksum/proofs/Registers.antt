@@ -1,9 +1,10 @@
 -- The register is linear: what becomes of a sum is the sum of what becomes of its parts.
-use Rattle.std.proofs.Common.{◌≡◌, ℕ, zero, suc, ◌+◌, ◌*◌, ◌/◌, ◌%◌, ◌^◌, ◌<◌, List, [], ◌∷◌, length, slice_index_or, refl, sym, ap, ◌∙◌, arith}
+use Rattle.std.proofs.Common.{◌≡◌, ℕ, zero, suc, ◌+◌, ◌*◌, ◌/◌, ◌%◌, ◌^◌, ◌<◌, ◌≤◌, List, [], ◌∷◌, length, drop, slice_index_or, refl, sym, ap, ◌∙◌, arith}
+use Rattle.std.proofs.lemmas.List.{at_drop_more}
 use Rattle.std.specs.List.{fold, AllByRecursion}
 use Rattle.std.specs.Prelude.{bit_xor}
 use Rattle.std.specs.Int.Bits.{xor_assoc, xor_zero_r, xor_self}
-use Rattle.std.proofs.lemmas.Nat.{xor_comm, xor_shr, xor_mod, xor_block, xor_lt}
+use Rattle.std.proofs.lemmas.Nat.{xor_comm, xor_shr, xor_mod, xor_block, xor_lt, pow_pos}
 use Rattle.checksum.specs.Crc32c.{polynomial, shifted, shifted_by, with_byte}
 
 -- two sums of two, added crosswise
@@ -12,13 +13,6 @@ xor_swap a b c d =
     xor_assoc a b (bit_xor c d)
     ∙ ap (bit_xor a) (sym (xor_assoc b c d) ∙ ap (λ (x : ℕ). bit_xor x d) (xor_comm b c) ∙ xor_assoc c b d)
     ∙ sym (xor_assoc a c (bit_xor b d))
-
--- a sum of four behind another one
-pub xor_behind : (a b c d rest : ℕ) → bit_xor rest (bit_xor a (bit_xor b (bit_xor c d))) ≡ bit_xor a (bit_xor b (bit_xor c (bit_xor d rest)))
-xor_behind a b c d rest =
-    xor_comm rest (bit_xor a (bit_xor b (bit_xor c d)))
-    ∙ xor_assoc a (bit_xor b (bit_xor c d)) rest
-    ∙ ap (bit_xor a) (xor_assoc b (bit_xor c d) rest ∙ ap (bit_xor b) (xor_assoc c d rest))
 
 -- all bits turned over twice
 pub turned_back : (r : ℕ) → bit_xor (bit_xor r 0xFFFFFFFF) 0xFFFFFFFF ≡ r
@@ -99,73 +93,141 @@ pub added : (a r b : ℕ) → with_byte (bit_xor a r) b ≡ bit_xor (shifted_by 
 unfolding with_byte
 added a r b = ap (shifted_by 8) (xor_assoc a r b) ∙ shifted_by-xor 8 a (bit_xor r b)
 
-pub alone : (n a b : ℕ) → with_byte (shifted_by n a) b ≡ bit_xor (shifted_by (n + 8) a) (shifted_by 8 b)
-unfolding with_byte
-alone n a b = shifted_by-xor 8 (shifted_by n a) b ∙ ap (λ (x : ℕ). bit_xor x (shifted_by 8 b)) (shifted_more n 8 a)
+-- and what bytes make of it
+pub folded_apart : (bs : List ℕ) (a r : ℕ) → fold with_byte (bit_xor a r) bs ≡ bit_xor (shifted_by (8 * length bs) a) (fold with_byte r bs)
+unfolding shifted_by
+folded_apart [] a r = refl
+folded_apart (b ∷ bs) a r =
+    let more : 8 + 8 * length bs ≡ 8 * suc (length bs) = omega arith in
+    ap (λ (x : ℕ). fold with_byte x bs) (added a r b)
+    ∙ folded_apart bs (shifted_by 8 a) (with_byte r b)
+    ∙ ap (λ (x : ℕ). bit_xor x (fold with_byte (with_byte r b) bs)) (shifted_more 8 (8 * length bs) a ∙ ap (λ n. shifted_by n a) more)
 
-first_byte : (r b : ℕ) → with_byte r b ≡ shifted_by 8 (bit_xor r b)
-unfolding with_byte
-first_byte r b = refl
+-- ---- bytes at their places
 
--- eight bytes from a register of four
-module _ (r0 r1 r2 r3 b0 b1 b2 b3 b4 b5 b6 b7 : ℕ) (small0 : r0 < 256) (small1 : r1 < 256) (small2 : r2 < 256) where
-  abbrev after1 : ℕ
-  after1 = bit_xor (shifted_by 8 (bit_xor r0 b0)) (r1 + (r2 + r3 * 256) * 256)
+-- a number is the sum of its four bytes, each at its place
+xor_times : (k a b : ℕ) → bit_xor (a * 2 ^ k) (b * 2 ^ k) ≡ bit_xor a b * 2 ^ k
+xor_times k a b =
+    let none : (x : ℕ) → x * 2 ^ k + 0 ≡ x * 2 ^ k = λ x. omega arith in
+    ap (λ (x : ℕ). bit_xor x (b * 2 ^ k)) (sym (none a)) ∙ ap (bit_xor (a * 2 ^ k + 0)) (sym (none b)) ∙ xor_block k a b 0 0 (pow_pos k) (pow_pos k) ∙ none (bit_xor a b)
 
-  abbrev after2 : ℕ
-  after2 = bit_xor (shifted_by 16 (bit_xor r0 b0)) (bit_xor (shifted_by 8 (bit_xor r1 b1)) (r2 + r3 * 256))
-
-  abbrev after3 : ℕ
-  after3 = bit_xor (shifted_by 24 (bit_xor r0 b0)) (bit_xor (shifted_by 16 (bit_xor r1 b1)) (bit_xor (shifted_by 8 (bit_xor r2 b2)) r3))
-
-  abbrev after4 : ℕ
-  after4 = bit_xor (shifted_by 32 (bit_xor r0 b0)) (bit_xor (shifted_by 24 (bit_xor r1 b1)) (bit_xor (shifted_by 16 (bit_xor r2 b2)) (shifted_by 8 (bit_xor r3 b3))))
-
-  abbrev after8 : ℕ
-  after8 =
-      bit_xor (shifted_by 64 (bit_xor r0 b0)) (bit_xor (shifted_by 56 (bit_xor r1 b1)) (bit_xor (shifted_by 48 (bit_xor r2 b2)) (bit_xor (shifted_by 40 (bit_xor r3 b3))
-      (bit_xor (shifted_by 32 b4) (bit_xor (shifted_by 24 b5) (bit_xor (shifted_by 16 b6) (shifted_by 8 b7)))))))
-
-  is1 : with_byte (r0 + (r1 + (r2 + r3 * 256) * 256) * 256) b0 ≡ after1
-  is1 = byte_taken (r1 + (r2 + r3 * 256) * 256) r0 b0 small0
-
-  is2 : with_byte after1 b1 ≡ after2
-  is2 = simp (added, shifted_more, byte_taken (r2 + r3 * 256) r1 b1 small1) refl
-
-  is3 : with_byte after2 b2 ≡ after3
-  is3 = simp (added, shifted_more, byte_taken r3 r2 b2 small2) refl
-
-  is4 : with_byte after3 b3 ≡ after4
-  is4 = simp (added, shifted_more, first_byte r3 b3) refl
-
-  is8 : with_byte (with_byte (with_byte (with_byte after4 b4) b5) b6) b7 ≡ after8
-  is8 = simp (added, shifted_more, alone) refl
-
-  pub eight_taken : with_byte (with_byte (with_byte (with_byte (with_byte (with_byte (with_byte (with_byte (r0 + (r1 + (r2 + r3 * 256) * 256) * 256) b0) b1) b2) b3) b4) b5) b6) b7 ≡ after8
-  eight_taken =
-      ap (λ (r : ℕ). with_byte (with_byte (with_byte (with_byte (with_byte (with_byte (with_byte r b1) b2) b3) b4) b5) b6) b7) is1
-      ∙ ap (λ (r : ℕ). with_byte (with_byte (with_byte (with_byte (with_byte (with_byte r b2) b3) b4) b5) b6) b7) is2
-      ∙ ap (λ (r : ℕ). with_byte (with_byte (with_byte (with_byte (with_byte r b3) b4) b5) b6) b7) is3
-      ∙ ap (λ (r : ℕ). with_byte (with_byte (with_byte (with_byte r b4) b5) b6) b7) is4
-      ∙ is8
-
--- eight bytes, each by its place
-pub fold_eight : (bs : List ℕ) (r : ℕ) → length bs ≡ 8 → fold with_byte r bs
-    ≡ with_byte (with_byte (with_byte (with_byte (with_byte (with_byte (with_byte (with_byte r (slice_index_or bs 0 0)) (slice_index_or bs 1 0)) (slice_index_or bs 2 0)) (slice_index_or bs 3 0)) (slice_index_or bs 4 0)) (slice_index_or bs 5 0)) (slice_index_or bs 6 0)) (slice_index_or bs 7 0)
-fold_eight (b0 ∷ b1 ∷ b2 ∷ b3 ∷ b4 ∷ b5 ∷ b6 ∷ b7 ∷ []) r long = refl
-fold_eight [] r long = absurd (omega (arith, long))
-fold_eight (b0 ∷ []) r long = absurd (omega (arith, long))
-fold_eight (b0 ∷ b1 ∷ []) r long = absurd (omega (arith, long))
-fold_eight (b0 ∷ b1 ∷ b2 ∷ []) r long = absurd (omega (arith, long))
-fold_eight (b0 ∷ b1 ∷ b2 ∷ b3 ∷ []) r long = absurd (omega (arith, long))
-fold_eight (b0 ∷ b1 ∷ b2 ∷ b3 ∷ b4 ∷ []) r long = absurd (omega (arith, long))
-fold_eight (b0 ∷ b1 ∷ b2 ∷ b3 ∷ b4 ∷ b5 ∷ []) r long = absurd (omega (arith, long))
-fold_eight (b0 ∷ b1 ∷ b2 ∷ b3 ∷ b4 ∷ b5 ∷ b6 ∷ []) r long = absurd (omega (arith, long))
-fold_eight (b0 ∷ b1 ∷ b2 ∷ b3 ∷ b4 ∷ b5 ∷ b6 ∷ b7 ∷ b8 ∷ bs) r long = absurd (omega (arith, long))
+pub four_apart : (r0 r1 r2 r3 : ℕ) → r0 < 256 → r1 < 256 → r2 < 256 → r0 + (r1 + (r2 + r3 * 256) * 256) * 256 ≡ bit_xor r0 (bit_xor (r1 * 2 ^ 8) (bit_xor (r2 * 2 ^ 16) (r3 * 2 ^ 24)))
+four_apart r0 r1 r2 r3 small0 small1 small2 =
+    let q2 = r2 + r3 * 256 in
+    let q1 = r1 + q2 * 256 in
+    let last : r3 * 256 * 2 ^ 16 ≡ r3 * 2 ^ 24 = omega arith in
+    let places : q2 * 256 * 2 ^ 8 ≡ q2 * 2 ^ 16 = omega arith in
+    let third : q2 * 256 * 2 ^ 8 ≡ bit_xor (r2 * 2 ^ 16) (r3 * 2 ^ 24) =
+    places ∙ ap (λ (x : ℕ). x * 2 ^ 16) (digits r3 r2 small2) ∙ sym (xor_times 16 r2 (r3 * 256)) ∙ ap (bit_xor (r2 * 2 ^ 16)) last in
+    let second : q1 * 256 ≡ bit_xor (r1 * 2 ^ 8) (bit_xor (r2 * 2 ^ 16) (r3 * 2 ^ 24)) =
+    ap (λ (x : ℕ). x * 2 ^ 8) (digits q2 r1 small1) ∙ sym (xor_times 8 r1 (q2 * 256)) ∙ ap (bit_xor (r1 * 2 ^ 8)) third in
+    digits q1 r0 small0 ∙ ap (bit_xor r0) second
 
 -- a number is its four bytes
-pub four_digits : (r : ℕ) → r < 2 ^ 32 → r ≡ r % 256 + (r / 256 % 256 + (r / 65536 % 256 + r / 16777216 % 256 * 256) * 256) * 256
+four_digits : (r : ℕ) → r < 2 ^ 32 → r ≡ r % 256 + (r / 256 % 256 + (r / 65536 % 256 + r / 16777216 % 256 * 256) * 256) * 256
 four_digits r small = omega (arith, small)
+
+-- a byte in a higher place is shifted out later
+moved : (n a : ℕ) → shifted_by (n + 8) (a * 256) ≡ shifted_by n a
+moved n a =
+    let bits : n + 8 ≡ 8 + n = omega arith in
+    ap (λ k. shifted_by k (a * 256)) bits ∙ sym (shifted_more 8 n (a * 256)) ∙ ap (shifted_by n) (shifted_high a)
+
+from_third : (n a : ℕ) → shifted_by (n + 8) (a * 2 ^ 24) ≡ shifted_by n (a * 2 ^ 16)
+from_third n a =
+    let place : a * 2 ^ 24 ≡ a * 2 ^ 16 * 256 = omega arith in
+    ap (shifted_by (n + 8)) place ∙ moved n (a * 2 ^ 16)
+
+from_second : (n a : ℕ) → shifted_by (n + 16) (a * 2 ^ 24) ≡ shifted_by n (a * 2 ^ 8)
+from_second n a =
+    let bits : n + 16 ≡ n + 8 + 8 = omega arith in
+    let place : a * 2 ^ 16 ≡ a * 2 ^ 8 * 256 = omega arith in
+    ap (λ k. shifted_by k (a * 2 ^ 24)) bits ∙ from_third (n + 8) a ∙ ap (shifted_by (n + 8)) place ∙ moved n (a * 2 ^ 8)
+
+pub from_first : (n a : ℕ) → shifted_by (n + 24) (a * 2 ^ 24) ≡ shifted_by n a
+from_first n a =
+    let bits : n + 24 ≡ n + 8 + 16 = omega arith in
+    let place : a * 2 ^ 8 ≡ a * 256 = omega arith in
+    ap (λ k. shifted_by k (a * 2 ^ 24)) bits ∙ from_second (n + 8) a ∙ ap (shifted_by (n + 8)) place ∙ moved n a
+
+-- what becomes of a register, from what becomes of each of its bytes in the highest place
+pub bytes_shifted : (n r : ℕ) → r < 2 ^ 32
+    → bit_xor (shifted_by (n + 24) (r % 256 * 2 ^ 24)) (bit_xor (shifted_by (n + 16) (r / 256 % 256 * 2 ^ 24)) (bit_xor (shifted_by (n + 8) (r / 65536 % 256 * 2 ^ 24)) (shifted_by n (r / 16777216 % 256 * 2 ^ 24)))) ≡ shifted_by n r
+bytes_shifted n r small =
+    let r0 = r % 256 in
+    let r1 = r / 256 % 256 in
+    let r2 = r / 65536 % 256 in
+    let r3 = r / 16777216 % 256 in
+    (λ i. bit_xor (from_first n r0 i) (bit_xor (from_second n r1 i) (bit_xor (from_third n r2 i) (shifted_by n (r3 * 2 ^ 24)))))
+    ∙ sym (shifted_by-xor n r0 (bit_xor (r1 * 2 ^ 8) (bit_xor (r2 * 2 ^ 16) (r3 * 2 ^ 24)))
+    ∙ ap (bit_xor (shifted_by n r0)) (shifted_by-xor n (r1 * 2 ^ 8) (bit_xor (r2 * 2 ^ 16) (r3 * 2 ^ 24))
+    ∙ ap (bit_xor (shifted_by n (r1 * 2 ^ 8))) (shifted_by-xor n (r2 * 2 ^ 16) (r3 * 2 ^ 24))))
+    ∙ ap (shifted_by n) (sym (four_apart r0 r1 r2 r3 (omega arith) (omega arith) (omega arith)))
+    ∙ ap (shifted_by n) (sym (four_digits r small))
+
+-- ---- four bytes at once
+
+-- a byte after others adds what would become it after as many bytes
+taken_behind : (n a b c : ℕ) → shifted_by n c ≡ b → with_byte (shifted_by n a) b ≡ shifted_by (n + 8) (bit_xor a c)
+unfolding with_byte
+taken_behind n a b c is =
+    ap (λ (x : ℕ). shifted_by 8 (bit_xor (shifted_by n a) x)) (sym is)
+    ∙ ap (shifted_by 8) (sym (shifted_by-xor n a c))
+    ∙ shifted_more n 8 (bit_xor a c)
+
+place_0 : (b : ℕ) → shifted_by 0 b ≡ b
+unfolding shifted_by
+place_0 b = refl
+
+place_1 : (b : ℕ) → shifted_by 8 (b * 2 ^ 8) ≡ b
+place_1 b = moved 0 b ∙ place_0 b
+
+place_2 : (b : ℕ) → shifted_by 16 (b * 2 ^ 16) ≡ b
+place_2 b = let place : b * 2 ^ 16 ≡ b * 2 ^ 8 * 256 = omega arith in ap (shifted_by 16) place ∙ moved 8 (b * 2 ^ 8) ∙ place_1 b
+
+place_3 : (b : ℕ) → shifted_by 24 (b * 2 ^ 24) ≡ b
+place_3 b = from_first 0 b ∙ place_0 b
+
+abbrev pub word : ℕ → ℕ → ℕ → ℕ → ℕ
+word b0 b1 b2 b3 = b0 + (b1 + (b2 + b3 * 256) * 256) * 256
+
+pub four_taken : (r b0 b1 b2 b3 : ℕ) → b0 < 256 → b1 < 256 → b2 < 256 → with_byte (with_byte (with_byte (with_byte r b0) b1) b2) b3 ≡ shifted_by 32 (bit_xor r (word b0 b1 b2 b3))
+four_taken r b0 b1 b2 b3 small0 small1 small2 =
+    let x1 = bit_xor r b0 in
+    let x2 = bit_xor x1 (b1 * 2 ^ 8) in
+    let x3 = bit_xor x2 (b2 * 2 ^ 16) in
+    let t0 : with_byte r b0 ≡ shifted_by 8 x1 = ap (λ (x : ℕ). with_byte x b0) (sym (place_0 r)) ∙ taken_behind 0 r b0 b0 (place_0 b0) in
+    ap (λ (x : ℕ). with_byte (with_byte (with_byte x b1) b2) b3) t0
+    ∙ ap (λ (x : ℕ). with_byte (with_byte x b2) b3) (taken_behind 8 x1 b1 (b1 * 2 ^ 8) (place_1 b1))
+    ∙ ap (λ (x : ℕ). with_byte x b3) (taken_behind 16 x2 b2 (b2 * 2 ^ 16) (place_2 b2))
+    ∙ taken_behind 24 x3 b3 (b3 * 2 ^ 24) (place_3 b3)
+    ∙ ap (shifted_by 32)
+    (xor_assoc x2 (b2 * 2 ^ 16) (b3 * 2 ^ 24)
+    ∙ xor_assoc x1 (b1 * 2 ^ 8) (bit_xor (b2 * 2 ^ 16) (b3 * 2 ^ 24))
+    ∙ xor_assoc r b0 (bit_xor (b1 * 2 ^ 8) (bit_xor (b2 * 2 ^ 16) (b3 * 2 ^ 24)))
+    ∙ ap (bit_xor r) (sym (four_apart b0 b1 b2 b3 small0 small1 small2)))
+
+fold_more : (bs : List ℕ) (r i j : ℕ) → i < length bs → i + 1 ≡ j → fold with_byte r (drop i bs) ≡ fold with_byte (with_byte r (slice_index_or bs i 0)) (drop j bs)
+fold_more bs r i j there next = at_drop_more (fold with_byte r) bs i 0 there ∙ ap (λ n. fold with_byte (with_byte r (slice_index_or bs i 0)) (drop n bs)) next
+
+-- four bytes of a list, as a number
+abbrev pub word_at : List ℕ → ℕ → ℕ
+word_at bs i = word (slice_index_or bs i 0) (slice_index_or bs (i + 1) 0) (slice_index_or bs (i + 2) 0) (slice_index_or bs (i + 3) 0)
+
+pub fold_four : (bs : List ℕ) (r i : ℕ) → ((j : ℕ) → slice_index_or bs j 0 < 256) → i + 4 ≤ length bs → fold with_byte r (drop i bs) ≡ fold with_byte (shifted_by 32 (bit_xor r (word_at bs i))) (drop (i + 4) bs)
+fold_four bs r i small there =
+    let r1 = with_byte r (slice_index_or bs i 0) in
+    let r2 = with_byte r1 (slice_index_or bs (i + 1) 0) in
+    let r3 = with_byte r2 (slice_index_or bs (i + 2) 0) in
+    fold_more bs r i (i + 1) (omega (arith, there)) (omega arith)
+    ∙ fold_more bs r1 (i + 1) (i + 2) (omega (arith, there)) (omega arith)
+    ∙ fold_more bs r2 (i + 2) (i + 3) (omega (arith, there)) (omega arith)
+    ∙ fold_more bs r3 (i + 3) (i + 4) (omega (arith, there)) (omega arith)
+    ∙ ap (λ (x : ℕ). fold with_byte x (drop (i + 4) bs)) (four_taken r (slice_index_or bs i 0) (slice_index_or bs (i + 1) 0) (slice_index_or bs (i + 2) 0) (slice_index_or bs (i + 3) 0) (small i) (small (i + 1)) (small (i + 2)))
+
+-- four words, one after the other
+pub four_words : (a b c d : ℕ) → shifted_by 32 (bit_xor (shifted_by 32 (bit_xor (shifted_by 32 (bit_xor (shifted_by 32 a) b)) c)) d) ≡ bit_xor (shifted_by 128 a) (bit_xor (shifted_by 96 b) (bit_xor (shifted_by 64 c) (shifted_by 32 d)))
+four_words a b c d = simp (shifted_by-xor, shifted_more, xor_assoc) refl
 
 -- ---- one byte that was changed
 

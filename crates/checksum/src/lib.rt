@@ -1,34 +1,77 @@
 //! The checksum CRC-32C of bytes.
 #![tactic(auto)]
 
-ghost use Rattle.std.specs.Prelude.{◌≡◌, ◌*◌};
+ghost use Rattle.std.specs.Prelude.{◌≡◌, ◌*◌, ℕ, List, length};
 ghost use Rattle.std.specs.List.{fold};
 ghost use Rattle.checksum.specs.Crc32c.{continued, crc32c, with_byte};
 
 mod form;
 pub mod laws;
 mod tables;
+mod zeros;
 
 pub use form::Form;
-use tables::{after_8, after_16, after_24, after_32, after_40, after_48, after_56, after_64};
+use zeros::{after_few_zeros, after_zeros, highest_after};
 
 /// The register after one more byte.
 fn after_byte(register: u32, byte: u8) -> u32
     ensures { result ≡ with_byte register byte }
 {
     let [low, ..] = register.to_le_bytes();
-    (register >> 8) ^ after_8(low ^ byte)
+    (register >> 8) ^ highest_after(low ^ byte, 4)
 }
 
-/// The register after eight more bytes: each is looked up in the table for how far it is shifted
-/// out by then. The last four don't depend on the register, and so they come first.
-fn after_eight(register: u32, bytes: [u8; 8]) -> u32
+/// The register after four more bytes.
+fn after_four(register: u32, bytes: [u8; 4]) -> u32
     ensures { result ≡ fold with_byte register bytes }
 {
-    let [r0, r1, r2, r3] = register.to_le_bytes();
-    let [b0, b1, b2, b3, b4, b5, b6, b7] = bytes;
-    (after_32(b4) ^ (after_24(b5) ^ (after_16(b6) ^ after_8(b7))))
-        ^ (after_64(r0 ^ b0) ^ (after_56(r1 ^ b1) ^ (after_48(r2 ^ b2) ^ after_40(r3 ^ b3))))
+    after_few_zeros(register ^ u32::from_le_bytes(bytes), 4)
+}
+
+/// The register after sixteen more bytes. The last twelve don't depend on the register.
+fn after_sixteen(register: u32, bytes: [u8; 16]) -> u32
+    ensures { result ≡ fold with_byte register bytes }
+{
+    let [
+        b0,
+        b1,
+        b2,
+        b3,
+        b4,
+        b5,
+        b6,
+        b7,
+        b8,
+        b9,
+        b10,
+        b11,
+        b12,
+        b13,
+        b14,
+        b15,
+    ] = bytes;
+    let w0 = u32::from_le_bytes([b0, b1, b2, b3]);
+    let w1 = u32::from_le_bytes([b4, b5, b6, b7]);
+    let w2 = u32::from_le_bytes([b8, b9, b10, b11]);
+    let w3 = u32::from_le_bytes([b12, b13, b14, b15]);
+    after_few_zeros(register ^ w0, 16)
+        ^ (after_few_zeros(w1, 12) ^ (after_few_zeros(w2, 8) ^ after_few_zeros(w3, 4)))
+}
+
+/// The register after bytes, which are taken in four at a time, and the last ones singly.
+fn after_few(register: u32, bytes: &[u8]) -> u32
+    ensures { result ≡ fold with_byte register bytes.now }
+{
+    let mut reached = register;
+    let mut rest = bytes;
+    while let Some((four, behind)) = rest.split_first_chunk::<4>() {
+        reached = after_four(reached, *four);
+        rest = behind;
+    }
+    for byte in rest {
+        reached = after_byte(reached, *byte);
+    }
+    reached
 }
 
 /// The register after these bytes.
@@ -37,14 +80,11 @@ fn after(register: u32, bytes: &[u8]) -> u32
 {
     let mut reached = register;
     let mut rest = bytes;
-    while let Some((eight, behind)) = rest.split_first_chunk::<8>() {
-        reached = after_eight(reached, *eight);
+    while let Some((sixteen, behind)) = rest.split_first_chunk::<16>() {
+        reached = after_sixteen(reached, *sixteen);
         rest = behind;
     }
-    for byte in rest {
-        reached = after_byte(reached, *byte);
-    }
-    reached
+    after_few(reached, rest)
 }
 
 /// The checksum of these bytes after others, whose checksum is `crc`.
@@ -63,4 +103,14 @@ pub fn crc32c(bytes: &[u8]) -> u32
     ensures { result ≡ crc32c bytes.now }
 {
     append(0, bytes)
+}
+
+/// The checksum of bytes after others, from the checksum of each: `first` is that of the others,
+/// and `second` that of the bytes, of which there are `len`. It reads none of them.
+pub fn joined(first: u32, second: u32, len: usize) -> u32
+    // promise: damage_is_noticed_and_named
+    ensures { (bytes : List ℕ) → length bytes ≡ len → crc32c bytes ≡ second
+        → result ≡ continued first bytes }
+{
+    after_zeros(first, len) ^ second
 }

@@ -1,7 +1,0 @@
-use Rattle.std.proofs.Common.{ap, ◌∙◌, arith, slice_index_or}
-use Rattle.checksum.specs.declared.tables.TheConstants.{AFTER_24}
-use Rattle.checksum.proofs.Entries.{entry_24}
-use Rattle.checksum.proofs.tables.after_24.Goals as goal
-
-pub returns : goal.returns
-returns c = ap (λ i. slice_index_or AFTER_24 i 0) c.from.ensures ∙ entry_24 c.args.byte 0 (omega (arith, c.ranges.byte))

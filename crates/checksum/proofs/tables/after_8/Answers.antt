@@ -1,7 +1,0 @@
-use Rattle.std.proofs.Common.{ap, ◌∙◌, arith, slice_index_or}
-use Rattle.checksum.specs.declared.tables.TheConstants.{AFTER_8}
-use Rattle.checksum.proofs.Entries.{entry_8}
-use Rattle.checksum.proofs.tables.after_8.Goals as goal
-
-pub returns : goal.returns
-returns c = ap (λ i. slice_index_or AFTER_8 i 0) c.from.ensures ∙ entry_8 c.args.byte 0 (omega (arith, c.ranges.byte))
