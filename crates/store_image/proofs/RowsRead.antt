@@ -26,7 +26,7 @@ use Rattle.store_image.specs.declared.fault.RowsFault.TheVariants as faults
 use Rattle.store_image.specs.declared.reading.ReadTo.{ReadTo}
 use Rattle.store_image.specs.Private.Reading.{HasRecord, IsNoRecord, IsLastKey, IsAbove, AreReadTo, BeginsWith, IsNotNext}
 use Rattle.checksum.specs.Crc32c.{crc32c, continued}
-use Rattle.store_image.proofs.Summed.{crc_goes_on}
+use Rattle.checksum.proofs.ChecksumLaws.{goes_on as crc_goes_on}
 
 -- ---- places
 

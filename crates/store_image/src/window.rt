@@ -3,10 +3,14 @@
 ghost use Rattle.std.specs.Prelude.{◌≡◌, ◌↔◌, ℕ, ◌+◌, ◌-◌, ◌^◌, ◌<◌, ◌≤◌, List, length, take, drop};
 ghost use Rattle.std.specs.Prelude.{vec_len, IfOk, IfErr, OnOk, MatchResult};
 ghost use Rattle.disk_model.specs.View.{OnlyReads};
+ghost use Rattle.history_model.specs.declared.stamped.StampedRow.{StampedRow};
+ghost use Rattle.checksum.specs.Crc32c.{continued};
+ghost use Rattle.checksum.specs.declared.form.Form.TheVariants as forms;
+ghost use Rattle.segment.specs.Records.{record_in, record_of};
 
 use crate::fault::RowsFault;
 use blocks::{BLOCK, Extent};
-use checksum::append;
+use checksum::{append, joined};
 use disk_model::{Disk, DiskFault};
 use segment::{Form, SegmentFault, StampedRow, record_at};
 use std::alloc::{AllocError, Global};
@@ -38,7 +42,6 @@ impl Window {
     ghost use Rattle.fault_counts.specs.Counting.{CountsEach};
     ghost use Rattle.store_image.specs.Reader.{bytes_of};
     ghost use Rattle.segment.specs.Records.{record_of, IsStamped};
-    ghost use Rattle.checksum.specs.Crc32c.{continued};
     ghost use Rattle.store_image.specs.Reader.{bytes_in};
     ghost use Rattle.store_image.specs.Private.Reading.{CountsFault, HasRecord};
     ghost use Rattle.store_image.specs.Reader.{Sees};
@@ -189,17 +192,32 @@ impl Window {
     }
 
     /// The CRC-32C of a segment's bytes before the offset `end`, from that of those before `at`.
+    /// Between them is the record of a row.
     pub(crate) fn crc_to(&self, crc: u32, at: u32, end: u32) -> u32
         requires from { self.now.from ≤ at }
-        requires up { at ≤ end }
         requires reached { end ≤ self.now.from + self.now.len }
+        requires row { (s : StampedRow) × (end ≡ at + length (record_of s))
+            × HasRecord self.now.form (bytes_in self.now) (at - self.now.from) s }
         ensures { result ≡ continued crc
             (take (end - at) (drop (at - self.now.from) (bytes_in self.now))) }
     {
         let shown = &self.bytes.as_slice()[..self.len as usize];
-        append(
-            crc,
-            &shown[(at - self.from) as usize..(end - self.from) as usize],
-        )
+        let bytes = &shown[(at - self.from) as usize..(end - self.from) as usize];
+        match self.form {
+            Form::Plain => append(crc, bytes),
+            Form::Checked => append_checked(crc, bytes),
+        }
     }
+}
+
+/// The CRC-32C of bytes and of a checked record after them, from that of the bytes. The record
+/// begins with the checksum of its other bytes, so these aren't read.
+fn append_checked(crc: u32, bytes: &[u8]) -> u32
+    requires { (s : StampedRow) × (bytes.now ≡ record_in forms.Checked s) }
+    ensures { result ≡ continued crc bytes.now }
+{
+    let Some((head, fields)) = bytes.split_first_chunk::<4>() else {
+        return append(crc, bytes);
+    };
+    joined(append(crc, head), u32::from_be_bytes(*head), fields.len())
 }

@@ -1,6 +1,8 @@
-use Rattle.std.proofs.Common.{sym, subst, arith}
+use Rattle.std.proofs.Common.{◌-◌, sym, subst, arith}
 use Rattle.std.proofs.lemmas.Result.{err_from_is_err_and}
-use Rattle.store_image.specs.Private.Reading.{IsAbove}
+use Rattle.checksum.specs.declared.form.Form.{Form}
+use Rattle.store_image.specs.Reader.{bytes_in}
+use Rattle.store_image.specs.Private.Reading.{HasRecord, IsAbove}
 use Rattle.store_image.proofs.RowsRead.{no_record, above_number, out_of_order, more_bytes, more_are_read, begins_more, summed_on}
 use Rattle.store_image.proofs.reading.read_row.Goals as goal
 
@@ -32,8 +34,11 @@ returns-clause-read g c =
     let above = c.comes_after.ensures.0 c.if-not-comes_after.false in
     more_are_read c.args.to c.args.imports c.in_ok-row.at c.crc_to.result c.key-key.result (g.B.SegmentBuilder.rows c.args.builder.now) _ c.in_ok-row.row c.requires.rows c.in_ok-row.ensures.is c.in_ok-row.ensures.next (omega (arith, low)) c.key-key.ensures.key above c.in_ok-push.ensures.rows
 
-pub crc_to-requires-clause-up : goal.crc_to-requires-clause-up
-crc_to-requires-clause-up g c = let next = c.in_ok-row.ensures.next in omega (arith, next)
+pub crc_to-requires-clause-row : goal.crc_to-requires-clause-row
+crc_to-requires-clause-row g c =
+    let window = c.row_at.new.self in
+    let seen = c.in_ok-row.ensures.seen in
+    (c.in_ok-row.row, c.in_ok-row.ensures.next, subst (λ (f : Form). HasRecord f (bytes_in window) (c.args.to.at - window.from) c.in_ok-row.row) (sym c.in_ok-row.ensures.form) seen.1)
 
 pub returns-clause-summed : goal.returns-clause-summed
 returns-clause-summed g c was =
