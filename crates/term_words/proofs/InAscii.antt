@@ -1,6 +1,6 @@
 -- Characters of ASCII: each is its own decomposition without marks, and is folded to its lower case.
-use Rattle.std.proofs.Common.{◌≡◌, ℕ, zero, suc, ◌+◌, ◌<◌, ◌||◌, Bool, true, false, MatchBool, not, cond, List, [], ◌∷◌, ◌++◌, length, get_or, map, refl, sym, ap, subst, ◌∙◌, arith, append-nil, take}
-use Rattle.std.specs.Prelude.{encode_utf8, chars, flat_map, IsAscii}
+use Rattle.std.proofs.Common.{◌≡◌, ℕ, zero, suc, ◌+◌, ◌<◌, Bool, true, false, MatchBool, not, List, [], ◌∷◌, ◌++◌, length, get_or, map, refl, sym, ap, subst, ◌∙◌, arith, append-nil, take}
+use Rattle.std.specs.Prelude.{encode_utf8, flat_map, IsAscii}
 use Rattle.std.specs.Char.{to_ascii_lowercase, is_ascii_alphanumeric}
 use Rattle.std.specs.List.{filter}
 use Rattle.std.proofs.UnicodeAscii.{is_alphanumeric_ascii}

@@ -1,5 +1,5 @@
 -- Descriptions that are marked.
-use Rattle.std.proofs.Common.{◌≡◌, ◌⊎◌, ◌↔◌, ℕ, zero, suc, ◌+◌, ◌<◌, true, false, List, [], ◌∷◌, ◌++◌, length, get_or, take, map, refl, sym, ap, subst, inl, inr, ◌∙◌, arith, append-nil}
+use Rattle.std.proofs.Common.{◌≡◌, ◌↔◌, ℕ, zero, suc, ◌+◌, ◌<◌, true, false, List, [], ◌∷◌, ◌++◌, length, get_or, take, map, refl, sym, ap, subst, inl, inr, ◌∙◌, arith, append-nil}
 use Rattle.std.specs.Prelude.{nat_eq, Some, None, slice_get, slice_set, flat_map, replicate}
 use Rattle.std.specs.List.{AllByRecursion, starts_with}
 use Rattle.std.proofs.lemmas.Bool.Decides.{nat_tests}
@@ -16,6 +16,7 @@ use Rattle.term_words.specs.Posted.{keyed}
 use Rattle.term_words.specs.Laid.{key_in, rows_of, postings_in}
 use Rattle.term_words.specs.Private.{all_in, IsUsable, IsBegun, IsMarked, AddsMarks, AreNarrowed, AreMarked, EachMarked}
 use Rattle.term_words.proofs.Entries.{posting_entry, entry_posting}
+use Rattle.term_words.proofs.Ranking.{set_cases}
 use Rattle.term_words.proofs.Groups.{get_first, get_last, get_cases}
 
 -- ---- whether a description is marked
@@ -73,13 +74,6 @@ get-set [] row lt = absurd (omega arith)
 get-set (m ∷ marks) zero lt = refl
 get-set (m ∷ marks) (suc row) lt = get-set marks row (omega arith)
 
-get-set_cases : (marks : List ℕ) (row i : ℕ) → slice_get (slice_set marks row 1) i ≡ Some 1 → (slice_get marks i ≡ Some 1) ⊎ (row ≡ i)
-get-set_cases [] row i h = inl h
-get-set_cases (m ∷ marks) zero zero h = inr refl
-get-set_cases (m ∷ marks) zero (suc i) h = inl h
-get-set_cases (m ∷ marks) (suc row) zero h = inl h
-get-set_cases (m ∷ marks) (suc row) (suc i) h = elim (get-set_cases marks row i h) [ inl l ↦ inl l | inr e ↦ inr (ap suc e) ]
-
 get-set_old : (marks : List ℕ) (row i : ℕ) → slice_get marks i ≡ Some 1 → slice_get (slice_set marks row 1) i ≡ Some 1
 get-set_old [] row i h = h
 get-set_old (m ∷ marks) zero zero h = refl
@@ -96,9 +90,9 @@ pub marked_one : (marks among : List ℕ) (row : ℕ) → row < length marks →
 marked_one marks among row lt is = record {
   many = length-set marks row;
   marked = λ same i. (
-    λ h. elim (get-set_cases marks row i h) [
+    λ h. elim (set_cases marks row 1 i 1 h) [
       | inl l ↦ inl l
-      | inr e ↦ inr (subst (IsMarked among) e is, inl e)
+      | inr e ↦ inr (subst (IsMarked among) e.0 is, inl e.0)
     ],
     λ h. elim h [
       | inl l ↦ get-set_old marks row i l

@@ -1,6 +1,7 @@
 -- Definitions for private functions and proofs. No public clause cites them.
 pub mod Chains
-use Rattle.std.specs.Prelude.{◌≡◌, ◌≤◌, ◌<◌, ◌⊎◌, ◌↔◌, ℕ, ◌+◌, ◌-◌, Bool, true, false, List, [], ◌∷◌}
+use Rattle.std.specs.Prelude.{◌≡◌, ◌≤◌, ◌<◌, ◌⊎◌, ◌↔◌, ℕ, ◌+◌, ◌-◌, ◌^◌, Bool, true, false, List}
+use Rattle.std.specs.Prelude.{[], ◌∷◌}
 use Rattle.std.specs.Prelude.{◌++◌, length, map, flat_map, take, drop, get_or, slice_get, nat_eq, nat_lt, not}
 use Rattle.std.specs.Prelude.{Option, Some, None, Result, IfOk, OnOk, encode_utf8_all}
 use Rattle.std.specs.List.{AllByRecursion, starts_with, filter}
@@ -173,6 +174,12 @@ all_with_rows sizes ps = map (with_row sizes) ps
 -- each has the rank of a description
 abbrev pub AreRanksOf : List TermAt → List Ranked → Type 0
 AreRanksOf sizes ps = AllByRecursion (λ (p : Ranked). p.row < length sizes) ps
+
+-- what was found for the number of a row, if it is the number of one of these rows, is its own
+pub record AreOwnRanks (rows ranks : List ℕ) : Type 0 where
+  pub few : length rows < 2 ^ 32
+  pub own : (row rank : ℕ) → slice_get ranks row ≡ Some rank → rank < length rows
+      → slice_get rows rank ≡ Some row
 
 -- those of the postings whose keys aren't among the first ones were added, with the ranks of their
 -- descriptions in the places of the numbers of their rows

@@ -2,7 +2,7 @@
 //! once.
 
 ghost use Rattle.std.specs.Prelude.{◌≡◌, ◌<◌, ◌^◌, ◌+◌, ◌++◌, ◌∷◌, [], List, length, IsTrue};
-ghost use Rattle.std.specs.Prelude.{OnOk, OnErr, slice_get, ◌≤◌, ℕ};
+ghost use Rattle.std.specs.Prelude.{OnOk, OnErr, slice_get, ◌≤◌, ℕ, map};
 ghost use Rattle.std.specs.Option.{option_copied, option_map};
 ghost use Rattle.term_words.specs.Posted.{keyed};
 ghost use Rattle.term_words.specs.Laid.{postings_in};
@@ -287,6 +287,13 @@ impl Listing {
         ensures { result ≡ option_map (λ t. t.row) (slice_get self.now number) }
     {
         row_at(self.rows.as_slice(), number)
+    }
+
+    /// The numbers of the rows of all postings.
+    pub(crate) fn row_numbers(&self) -> &[u32]
+        ensures { result.now ≡ map (λ t. t.row) self.now }
+    {
+        self.rows.as_slice()
     }
 
     /// Adds a posting at the end. An `Err` changes nothing.

@@ -2,7 +2,7 @@
 
 ghost use Rattle.std.specs.Prelude.{◌≡◌, ◌<◌, ◌++◌, ◌∷◌, [], map, length, Some, IsTrue, OnOk, OnErr};
 ghost use Rattle.std.specs.Prelude.{false};
-ghost use Rattle.std.specs.Prelude.{slice_get, ◌+◌, ◌^◌};
+ghost use Rattle.std.specs.Prelude.{slice_get, ◌+◌, ◌^◌, ◌⊎◌};
 ghost use Rattle.std.specs.Option.{option_map};
 ghost use Rattle.term_words.specs.Posted.{keyed};
 ghost use Rattle.term_words.specs.Laid.{IsSizeKey, IsWordKey, by_rank, seen_in, AreParted};
@@ -53,7 +53,9 @@ pub(crate) struct Placed<'a> {
 }
 
 /// The rank that was noted for this number, or the greatest number.
-pub(crate) fn noted_rank(ranks: &[u32], number: u32) -> u32 {
+pub(crate) fn noted_rank(ranks: &[u32], number: u32) -> u32
+    ensures { (slice_get ranks.now number ≡ Some result) ⊎ (result + 1 ≡ 2 ^ 32) }
+{
     match ranks.get(number as usize) {
         Some(rank) => *rank,
         None => u32::MAX,
@@ -61,7 +63,7 @@ pub(crate) fn noted_rank(ranks: &[u32], number: u32) -> u32 {
 }
 
 /// Whether the description with this rank is that of the row.
-pub(crate) fn has_rank(sizes: &Listing, rank: u32, row: u32) -> bool
+fn has_rank(sizes: &Listing, rank: u32, row: u32) -> bool
     ensures { IsTrue result → option_map (λ t. t.row) (slice_get sizes.now rank) ≡ Some row }
 {
     match sizes.row(rank as usize) {

@@ -1,4 +1,4 @@
-use Rattle.std.proofs.Common.{◌≡◌, ◌≤◌, ℕ, List, ◌++◌, length, replicate, sym, ap, ◌∙◌, arith, append-nil, take, drop, take_all}
+use Rattle.std.proofs.Common.{◌≡◌, ◌≤◌, ℕ, List, ◌++◌, length, replicate, ap, ◌∙◌, arith, append-nil, take, drop, take_all}
 use Rattle.std.proofs.lemmas.List.{length-replicate}
 use Rattle.list_lemmas.proofs.Parts.{drop_whole}
 use Rattle.term_words.proofs.marking.clear.Goals as goal
