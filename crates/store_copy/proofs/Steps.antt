@@ -17,7 +17,8 @@ use Rattle.segment.specs.Standing.{places_of, with_places}
 use Rattle.segment.proofs.Posting.{says}
 use Rattle.segment.proofs.SegmentLaws.{no_rows, no_rows_plain, push_plain, segment_push}
 use Rattle.store_image.specs.Ahead.{BeginsWith}
-use Rattle.store_image.proofs.Summed.{crc_goes_on, none_is}
+use Rattle.checksum.proofs.ChecksumLaws.{goes_on as crc_goes_on}
+use Rattle.store_image.proofs.Summed.{none_is}
 use Rattle.store_image.proofs.Unlisted.{ahead_written}
 use Rattle.store_copy.specs.Copying.{up_to}
 use Rattle.store_copy.specs.Private.Writing.{ArePending}

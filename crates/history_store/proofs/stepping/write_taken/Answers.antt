@@ -13,7 +13,7 @@ use Rattle.history_store.specs.Answers.{Counts}
 use Rattle.history_store.specs.Meters.{UncalledIfRefused}
 use Rattle.history_store.proofs.KeptBlocks.{part_stepped}
 use Rattle.checksum.specs.Crc32c.{continued, crc32c}
-use Rattle.store_image.proofs.Summed.{crc_goes_on}
+use Rattle.checksum.proofs.ChecksumLaws.{goes_on as crc_goes_on}
 use Rattle.history_store.proofs.SteppedMerge.{on_ok, not_called, on_still, agrees_still, unless_given, unless_written}
 use Rattle.history_store.proofs.stepping.write_taken.Goals as goal
 
