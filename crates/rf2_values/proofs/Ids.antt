@@ -1,6 +1,5 @@
 -- A text spells one identifier of a kind.
-use Rattle.std.proofs.Common.{◌≡◌, ℕ, Some, ◌<◌, ◌^◌, List, sym, ap, ◌∙◌, arith}
-use Rattle.std.specs.Prelude.{decimal}
+use Rattle.std.proofs.Common.{◌≡◌, ℕ, Some, List, sym, ap, ◌∙◌, arith}
 use Rattle.std.specs.Int.{from_be_bytes, w128}
 use Rattle.std.proofs.lemmas.Fmt.{decimal_injective}
 use Rattle.rf2_values.specs.declared.row.Kind.{Kind}

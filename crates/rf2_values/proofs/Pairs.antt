@@ -1,5 +1,5 @@
 -- Two digits at a step of the check.
-use Rattle.std.proofs.Common.{◌≡◌, ℕ, zero, suc, ◌+◌, ◌*◌, ◌/◌, ◌%◌, ◌<◌, ◌≤◌, Bool, true, false, ◌&&◌, List, [], ◌∷◌, refl, ap, ◌∙◌, arith}
+use Rattle.std.proofs.Common.{◌≡◌, ℕ, zero, suc, ◌+◌, ◌*◌, ◌/◌, ◌%◌, ◌<◌, ◌≤◌, Bool, true, false, ◌&&◌, List, [], ◌∷◌, refl, sym, ap, ◌∙◌, ◌^◌, arith}
 use Rattle.std.specs.Prelude.{◌==◌}
 use Rattle.std.proofs.lemmas.Bool.{and_parts, eqb-true}
 use Rattle.std.proofs.lemmas.Bool.Decides.{nat_tests}
@@ -110,6 +110,35 @@ pair_step pair check n small two =
     let joined = associative check right left small (turn_below (2 * (pair % 4)) (digits % 10)) (turn_below (2 * (pair % 4) + 1) (digits / 10)) in
     let written = pair_at (pair % 4) digits (omega arith) (omega arith) in
     rw (first_place, first_digit, second_place, second_digit, next_place, rest, joined, ← written) at (one ∙ two)
+
+product_of_0 : (b : ℕ) → b < 10 → entry products 0 b ≡ b
+unfolding each
+product_of_0 b lt = eqb-true _ _ (at_each 10 b (λ b. entry products 0 b == b) refl lt)
+
+-- two products of two pairs, where the pairs would follow one another
+two_and_two : (a b c d : ℕ) → a < 10 → b < 10 → c < 10 → d < 10 → entry products (entry products (entry products (entry products 0 a) b) c) d ≡ entry products (entry products a b) (entry products c d)
+two_and_two a b c d la lb lc ld =
+    ap (λ (n : ℕ). entry products (entry products (entry products n b) c) d) (product_of_0 a la) ∙ associative (entry products a b) c d (product_below a b) lc ld
+
+-- the last eight digits are checked
+pub four_steps : (n : ℕ) → 10 ^ 8 ≤ n
+    → check_from 8 (entry products (entry products (entry pairs 0 (n % 10000 % 100)) (entry pairs 1 (n % 10000 / 100))) (entry products (entry pairs 2 (n / 10000 % 10000 % 100)) (entry pairs 3 (n / 10000 % 10000 / 100)))) (from_right (n / 10 ^ 8)) ≡ check_from 0 0 (from_right n)
+four_steps n more =
+    let a = entry pairs 0 (n % 100) in
+    let b = entry pairs 1 (n / 100 % 100) in
+    let c = entry pairs 2 (n / 100 / 100 % 100) in
+    let d = entry pairs 3 (n / 100 / 100 / 100 % 100) in
+    let one = pair_step 0 0 n (omega arith) (omega arith) in
+    let two = pair_step 1 (entry products 0 a) (n / 100) (product_below 0 a) (omega arith) in
+    let three = pair_step 2 (entry products (entry products 0 a) b) (n / 100 / 100) (product_below (entry products 0 a) b) (omega arith) in
+    let four = pair_step 3 (entry products (entry products (entry products 0 a) b) c) (n / 100 / 100 / 100) (product_below (entry products (entry products 0 a) b) c) (omega arith) in
+    let joined = two_and_two a b c d (pair_below 0 (n % 100) (omega arith) (omega arith)) (pair_below 1 (n / 100 % 100) (omega arith) (omega arith)) (pair_below 2 (n / 100 / 100 % 100) (omega arith) (omega arith)) (pair_below 3 (n / 100 / 100 / 100 % 100) (omega arith) (omega arith)) in
+    let first : n % 10000 % 100 ≡ n % 100 = omega arith in
+    let second : n % 10000 / 100 ≡ n / 100 % 100 = omega arith in
+    let third : n / 10000 % 10000 % 100 ≡ n / 100 / 100 % 100 = omega arith in
+    let fourth : n / 10000 % 10000 / 100 ≡ n / 100 / 100 / 100 % 100 = omega arith in
+    let rest : n / 10 ^ 8 ≡ n / 100 / 100 / 100 / 100 = omega arith in
+    rw (first, second, third, fourth, rest, ← joined) (sym (one ∙ two ∙ three ∙ four))
 
 -- the last digit, where there is one more, is checked
 pub last_step : (pair check n : ℕ) → 0 < n → n < 10 → check_from (2 * pair) check (from_right n) ≡ entry products check (entry even_turns (pair % 4) n)

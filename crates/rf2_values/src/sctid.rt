@@ -4,8 +4,9 @@
 //! Representation", "SCTID Constraints", "Check-digit" and "Partition Identifier".
 
 ghost use Rattle.std.specs.Prelude.{◌≡◌, ℕ, ◌<◌, ◌≤◌, Option, Some, IfSome, SomeIff, IsTrue};
-ghost use Rattle.std.specs.Prelude.{decimal};
-ghost use Rattle.rf2_values.specs.Sctid.{IsSctid, check_digits, class_of};
+ghost use Rattle.std.specs.Prelude.{decimal, reverse, ◌+◌, ◌*◌, ◌/◌, ◌^◌};
+ghost use Rattle.std.specs.Int.Digits.{digits_of};
+ghost use Rattle.rf2_values.specs.Sctid.{IsSctid, check_digits, check_from, class_of};
 
 use crate::number;
 use std::marker::Model;
@@ -88,13 +89,16 @@ impl Model for Sctid {
     ghost inverse = { λ n. record { value = n } };
 }
 
-/// Verhoeff's check of a number's digits: 0 if the last digit is right.
-fn check(number: u64) -> u8
-    ensures { result ≡ check_digits number }
+/// Verhoeff's check after the digits of a number, if it was `before` ahead of them and `pairs` pairs
+/// of digits stand to their right.
+fn check_after(before: u8, pairs: usize, digits: u64) -> u8
+    requires small { before < 10 }
+    requires few { pairs + digits < 2 ^ 64 }
+    ensures { result ≡ check_from (2 * pairs) before (reverse (digits_of 10 digits)) }
 {
-    let mut check = 0u8;
-    let mut rest = number;
-    let mut pair = 0usize;
+    let mut check = before;
+    let mut rest = digits;
+    let mut pair = pairs;
     // The product is associative, and so two digits need only one step.
     while rest >= 10 {
         let turned = PAIRS[pair % 4][(rest % 100) as usize];
@@ -107,6 +111,35 @@ fn check(number: u64) -> u8
     }
     let turned = TURNS[pair % 4][rest as usize];
     PRODUCTS[check as usize][turned as usize]
+}
+
+/// Verhoeff's check of the last eight digits of a number that has more. Since the product is
+/// associative, no pair of digits needs to wait for another one.
+fn check_last_eight(number: u64) -> u8
+    ensures small { result < 10 }
+    ensures rest { 10 ^ 8 ≤ number
+        → check_from 8 result (reverse (digits_of 10 (number / 10 ^ 8))) ≡ check_digits number }
+{
+    let right = number % 10_000;
+    let left = number / 10_000 % 10_000;
+    let first = PAIRS[0][(right % 100) as usize];
+    let second = PAIRS[1][(right / 100) as usize];
+    let third = PAIRS[2][(left % 100) as usize];
+    let fourth = PAIRS[3][(left / 100) as usize];
+    let right = PRODUCTS[first as usize][second as usize];
+    let left = PRODUCTS[third as usize][fourth as usize];
+    PRODUCTS[right as usize][left as usize]
+}
+
+/// Verhoeff's check of a number's digits: 0 if the last digit is right.
+fn check(number: u64) -> u8
+    ensures { result ≡ check_digits number }
+{
+    if number < 100_000_000 {
+        check_after(0, 0, number)
+    } else {
+        check_after(check_last_eight(number), 4, number / 100_000_000)
+    }
 }
 
 /// Whether the number is the identifier of a module, a type or another value of SNOMED CT's
