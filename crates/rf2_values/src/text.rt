@@ -1,13 +1,15 @@
 //! The texts in columns.
 
 ghost use Rattle.std.specs.Prelude.{◌≡◌, nat_eq, ℕ, IfOk, MatchOption, IsTrue, ◌↔◌, ⊤, length, ◌≤◌};
-ghost use Rattle.std.specs.Prelude.{List};
+ghost use Rattle.std.specs.Prelude.{List, ◌≢◌};
+ghost use Rattle.std.specs.List.{All};
 ghost use Rattle.std.specs.Str.{IsUtf8};
 ghost use Rattle.std.specs.Cmp.{partial_equiv_from_equiv};
 ghost use Rattle.std.specs.Cmp.Lexicographic.{nat_list_eq_equiv, pointwise};
 ghost use Rattle.rf2_values.specs.Text.{IsText};
 
 use bstr::ByteSlice;
+use memchr::memchr2;
 use std::alloc::{AllocError, Global};
 use std::marker::Model;
 
@@ -33,11 +35,18 @@ fn is_utf8(bytes: &[u8]) -> bool
     bytes.is_ascii() || bytes.is_utf8()
 }
 
+/// Whether the bytes have neither a TAB nor an LF.
+fn is_unbroken(bytes: &[u8]) -> bool
+    ensures { IsTrue result ↔ (All (λ b. b ≢ 9) bytes.now × All (λ b. b ≢ 10) bytes.now) }
+{
+    memchr2(b'\t', b'\n', bytes).is_none()
+}
+
 /// Whether the bytes are a text: not empty, UTF-8, and without TAB and LF.
 fn is_text(bytes: &[u8]) -> bool
     ensures { IsTrue result ↔ IsText bytes.now }
 {
-    !bytes.is_empty() && is_utf8(bytes) && bytes.iter().all(|b| *b != b'\t' && *b != b'\n')
+    !bytes.is_empty() && is_utf8(bytes) && is_unbroken(bytes)
 }
 
 impl Text {
