@@ -27,7 +27,7 @@ use Rattle.history_store.specs.MergeAnswers.{IsBeginningOf, IsSteppingOf, IsPubl
 use Rattle.history_store.specs.MergeAnswers.{IsAbandoningOf, IsTrimmingOf}
 use Rattle.history_store.specs.Prepared.{scope_of}
 use Rattle.line_commands.specs.declared.unread.Unread.{Unread}
-use Rattle.question_model.specs.Questions.{RowQuestion}
+use Rattle.question_model.specs.Questions.{AllRows}
 use Rattle.question_model.specs.Questions.{Question, ForRows, ForIds, Dates as AskDates, Digest}
 use Rattle.question_model.specs.Questions.{Receipt as AskReceipt, Added}
 use Rattle.question_model.specs.Wanted.{rows_for, kinds_for, AreIdsFor}
