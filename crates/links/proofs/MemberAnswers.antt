@@ -1,5 +1,5 @@
 -- What the answers about members have, and that they ascend.
-use Rattle.std.proofs.Common.{◌≡◌, ℕ, true, false, Bool, List, [], refl, sym, ap, inl, inr, ◌∙◌}
+use Rattle.std.proofs.Common.{◌≡◌, ℕ, true, false, Bool, List, [], refl, sym, inl, inr, ◌∙◌}
 use Rattle.std.specs.Prelude.{◌==◌, ◌&&◌, Option}
 use Rattle.std.specs.List.{filter}
 use Rattle.std.specs.Cmp.{ranked}
@@ -10,13 +10,13 @@ use Rattle.list_lemmas.proofs.Tests.{both_equal, all_three}
 use Rattle.rf2_values.specs.declared.row.Kind.TheVariants as kinds
 use Rattle.rf2_values.specs.declared.row.Body.{Body}
 use Rattle.rf2_values.specs.declared.row.Body.TheVariants as body
-use Rattle.rf2_values.specs.Row.{RowValue, kind_of, kind_of_body}
+use Rattle.rf2_values.specs.Row.{RowValue, kind_of}
 use Rattle.history_model.specs.InOrder.{Has, IsAscending}
 use Rattle.history_model.specs.History.{row_cmp}
 use Rattle.history_model.specs.Laws.{by_id}
-use Rattle.history_model.specs.Queries.{is_above, snapshot, is_kind, is_subject, subject_of_body, subject_of, is_about, about, is_member_of, member_component, component_of, is_value_above, value_cmp, values_above, members_about}
+use Rattle.history_model.specs.Queries.{is_above, snapshot, is_about, about, is_member_of, component_of, is_value_above, value_cmp, values_above, members_about}
 use Rattle.history_model.proofs.InOrder.{Has-put_all_cases, Has-put_all_new}
-use Rattle.history_model.proofs.Filtered.{Has-filter, Has-filter_from, IsAscending-filter, filter_same}
+use Rattle.history_model.proofs.Filtered.{Has-filter, Has-filter_from, IsAscending-filter}
 use Rattle.history_model.proofs.Snapshots.{current_from_snapshot, IsAscending-snapshot, Rises-current}
 use Rattle.history_model.proofs.Ascents.{ascends, one_row_of_a_component}
 use Rattle.history_model.proofs.Membership.{values_above_ascend}

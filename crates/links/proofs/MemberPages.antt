@@ -3,7 +3,7 @@ use Rattle.std.proofs.Common.{◌≡◌, ◌⊎◌, ℕ, ◌≤◌, zero, suc, L
 use Rattle.std.specs.Prelude.{Bool, Option, None}
 use Rattle.std.specs.List.{filter}
 use Rattle.std.specs.Cmp.{ranked}
-use Rattle.std.specs.declared.cmp.Ordering.TheVariants.{Less, Equal}
+use Rattle.std.specs.declared.cmp.Ordering.TheVariants.{Less}
 use Rattle.std.proofs.lemmas.List.{take-map, length-map}
 use Rattle.history_model.proofs.InOrder.{Has-all, all_from_has}
 use Rattle.history_model.proofs.Filtered.{Has-map}
