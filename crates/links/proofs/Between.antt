@@ -15,8 +15,9 @@ use Rattle.links.specs.declared.wanted.Seconds.{Seconds}
 use Rattle.links.specs.declared.wanted.Seconds.TheVariants as seconds
 use Rattle.links.specs.declared.wanted.Wanted.{Wanted}
 use Rattle.links.specs.Edges.{RowKey, tag_place, posting_rank, rank_of}
+use Rattle.links.specs.Selection.{is_up_to, is_second, is_wanted}
 use Rattle.links.specs.Private.{Takes}
-use Rattle.links.specs.Private.Asking.{is_up_to, is_second, is_wanted, key_of, low_from, high_from, low_rank, high_rank, AreGiven}
+use Rattle.links.specs.Private.Asking.{key_of, low_from, high_from, low_rank, high_rank, AreGiven}
 use Rattle.links.proofs.Numbering.{in_list, one_of}
 
 module _ {X : Type 0} (of : X → ℕ) (list : List X) (d e first count : ℕ) (low : SplitsAt (λ x. nat_lt (of x) d) list first) (high : SplitsAt (λ x. nat_le (of x) e) (drop first list) count) where

@@ -34,8 +34,9 @@ use Rattle.as_of_index.proofs.Pushing.{numbers_of_row}
 use Rattle.links.specs.declared.posting.Posting.{Posting}
 use Rattle.links.specs.declared.finding.Asked.{Asked}
 use Rattle.links.specs.Edges.{Edges, RowKey, keys_of, posting}
+use Rattle.links.specs.Selection.{is_between, is_wanted, IsPath}
 use Rattle.links.specs.Private.{postings_in}
-use Rattle.links.specs.Private.Asking.{is_between, is_wanted, key_of, is_asked, is_passed, selected, placed, IsPath, GivesAsked, AreFound, placed_cmp}
+use Rattle.links.specs.Private.Asking.{key_of, is_asked, is_passed, selected, placed, GivesAsked, AreFound, placed_cmp}
 use Rattle.links.specs.Laws.{EachPosted}
 use Rattle.links.proofs.Posted.{posting_stands, each_key_is_posted}
 

@@ -14,14 +14,14 @@ use Rattle.rf2_values.specs.Row.{RowValue, kind_of, kind_of_body}
 use Rattle.history_model.specs.InOrder.{Has, IsAscending}
 use Rattle.history_model.specs.History.{row_cmp}
 use Rattle.history_model.specs.Laws.{by_id}
-use Rattle.history_model.specs.Queries.{is_above, snapshot, is_kind, is_subject, subject_of_body, subject_of, is_about, about, is_member_of, is_member_above, members_above, member_component, component_of, is_value_above, value_cmp, values_above, members_about}
+use Rattle.history_model.specs.Queries.{is_above, snapshot, is_kind, is_subject, subject_of_body, subject_of, is_about, about, is_member_of, member_component, component_of, is_value_above, value_cmp, values_above, members_about}
 use Rattle.history_model.proofs.InOrder.{Has-put_all_cases, Has-put_all_new}
 use Rattle.history_model.proofs.Filtered.{Has-filter, Has-filter_from, IsAscending-filter, filter_same}
 use Rattle.history_model.proofs.Snapshots.{current_from_snapshot, IsAscending-snapshot, Rises-current}
 use Rattle.history_model.proofs.Ascents.{ascends, one_row_of_a_component}
 use Rattle.history_model.proofs.Membership.{values_above_ascend}
-use Rattle.links.specs.Private.Asking.{is_up_to, is_between}
-use Rattle.links.proofs.Paths.{is_value_between, is_member_about}
+use Rattle.links.specs.Selection.{is_up_to, is_between, passed_above}
+use Rattle.links.proofs.Paths.{member_kind, is_value_between, is_member_about}
 
 three : (a b c : Bool) → (a && b && c) ≡ true → (a ≡ true) × (b ≡ true) × (c ≡ true)
 three a b c e = elim a as (λ (t : Bool). (t && b && c) ≡ true → (t ≡ true) × (b ≡ true) × (c ≡ true)) [
@@ -29,22 +29,12 @@ three a b c e = elim a as (λ (t : Bool). (t && b && c) ≡ true → (t ≡ true
   | false ↦ λ f. absurd (cc)
 ] e
 
--- a member is one of the kind
-pub member_kind : (refset : ℕ) (b : Body) → is_member_of refset b ≡ true → kind_of_body b ≡ kinds.Member
-member_kind refset (body.Concept c) e = absurd (cc)
-member_kind refset (body.Description d) e = absurd (cc)
-member_kind refset (body.Relationship r) e = absurd (cc)
-member_kind refset (body.Association a) e = absurd (cc)
-member_kind refset (body.Concrete c) e = absurd (cc)
-member_kind refset (body.Member m) e = refl
-
 -- ---- by id
 
-pub members_ascend : (refset date : ℕ) (after : Option ℕ) (rows : List RowValue) → IsAscending row_cmp rows → IsAscending by_id (members_above refset date after rows)
-unfolding members_above
-members_ascend refset date after rows up =
-    ascends (is_member_above refset after) (λ row. row.id) (snapshot rows date)
-    (Rises-current (is_member_above refset after) kinds.Member rows date (λ x e. member_kind refset x.body (and_parts (is_member_of refset x.body) (is_above after x.id) e).0) (snapshot rows date) (IsAscending-snapshot rows date up) (λ x there. current_from_snapshot rows date x there))
+pub passed_ascend : (test : RowValue → Bool) → ((row : RowValue) → test row ≡ true → kind_of row ≡ kinds.Member) → (date : ℕ) (after : Option ℕ) (rows : List RowValue) → IsAscending row_cmp rows → IsAscending by_id (passed_above test date after rows)
+passed_ascend test of_kind date after rows up =
+    ascends (λ row. test row && is_above after row.id) (λ row. row.id) (snapshot rows date)
+    (Rises-current (λ row. test row && is_above after row.id) kinds.Member rows date (λ x e. of_kind x (and_parts (test x) (is_above after x.id) e).0) (snapshot rows date) (IsAscending-snapshot rows date up) (λ x there. current_from_snapshot rows date x there))
 
 member_last : (above up_to member : Bool) → ((above && up_to) && member) ≡ ((member && above) && up_to)
 member_last true true true = refl
@@ -57,11 +47,10 @@ member_last false false true = refl
 member_last false false false = refl
 
 -- those up to an id, if one is given
-pub members_up_to : (refset date : ℕ) (after last : Option ℕ) (rows : List RowValue) → filter (λ row. is_between after last row.id && is_member_of refset row.body) (snapshot rows date) ≡ filter (λ row. is_up_to last row.id) (members_above refset date after rows)
-unfolding members_above
-members_up_to refset date after last rows =
-    filter_of_both (is_member_above refset after) (λ row. is_up_to last row.id) (λ row. is_between after last row.id && is_member_of refset row.body) (snapshot rows date)
-    (λ row. member_last (is_above after row.id) (is_up_to last row.id) (is_member_of refset row.body))
+pub passed_up_to : (test : RowValue → Bool) (date : ℕ) (after last : Option ℕ) (rows : List RowValue) → filter (λ row. is_between after last row.id && test row) (snapshot rows date) ≡ filter (λ row. is_up_to last row.id) (passed_above test date after rows)
+passed_up_to test date after last rows =
+    filter_of_both (λ row. test row && is_above after row.id) (λ row. is_up_to last row.id) (λ row. is_between after last row.id && test row) (snapshot rows date)
+    (λ row. member_last (is_above after row.id) (is_up_to last row.id) (test row))
 
 -- ---- by component
 

@@ -64,7 +64,7 @@ module _ (lists : List (List StampedRow)) (are : ArePlaces (map places_of lists)
   named_from_chosen (k ∷ ks) [] kept a n = absurd a
   named_from_chosen (k ∷ ks) (s ∷ rows) kept a n =
       let id_is : k.at.key.id ≡ s.row.id = ap (λ (q : Key). q.id) (standing_row lists are k.segment k.at s a.0).1 in
-      let m = about_from_found lists are edges posts refset as_of k.at.key.id n.0 n.2 in
+      let m = about_from_found lists are edges posts as_of refset k.at.key.id n.0 n.2 in
       let one = with_rows lists k s n.0 m.0 a.0 m.1 in
       let rest = named_from_chosen ks rows n.1 a.1 n.4 in
       let about_is : map (λ (t : StampedRow). t.row) one.0 ≡ answer_about s.row =

@@ -30,8 +30,9 @@ use Rattle.links.specs.declared.posting.Posting.{Posting}
 use Rattle.links.specs.declared.finding.Asked.{Asked}
 use Rattle.links.specs.Edges.{Edges, RowKey, posting, keys_of, tag_place}
 use Rattle.links.specs.Laws.{EachPosted}
+use Rattle.links.specs.Selection.{is_between, is_wanted, IsPath}
 use Rattle.links.specs.Private.{postings_in, towards, next_ones}
-use Rattle.links.specs.Private.Asking.{all_with, sources_with, asked_for, is_between, is_wanted, key_of, IsPath, GivesEnd, AreGiven}
+use Rattle.links.specs.Private.Asking.{all_with, sources_with, asked_for, key_of, GivesEnd, AreGiven}
 use Rattle.links.proofs.Between.{wanted_parts}
 use Rattle.links.proofs.FoundRows.{row_asked, posted_row}
 use Rattle.links.proofs.Paths.{path_of_children, path_of_parents, path_of_sources, end_at, end_is}

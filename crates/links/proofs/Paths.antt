@@ -1,10 +1,12 @@
 -- Each question's path: a row passes the test exactly if one of its postings is wanted.
 use Rattle.std.proofs.Common.{◌≡◌, ℕ, zero, suc, Bool, true, false, List, [], ◌∷◌, refl, sym, ap, subst, inl, inr, ◌∙◌}
-use Rattle.std.specs.Prelude.{◌||◌, ◌&&◌, ◌==◌, Option, Some, None, if◌then◌else◌}
+use Rattle.std.specs.Prelude.{◌||◌, ◌&&◌, ◌==◌, not, Option, Some, None, if◌then◌else◌}
+use Rattle.std.proofs.lemmas.Bool.{and_parts}
 use Rattle.std.specs.List.{list_any}
 use Rattle.rf2_values.specs.declared.row.Body.{Body}
 use Rattle.rf2_values.specs.declared.row.Body.TheVariants as body
-use Rattle.rf2_values.specs.Row.{RowValue}
+use Rattle.rf2_values.specs.declared.row.Kind.TheVariants.{Member}
+use Rattle.rf2_values.specs.Row.{RowValue, kind_of_body}
 use Rattle.history_model.specs.InOrder.{Has}
 use Rattle.history_model.specs.Relationships.{is_of_type, says_to, leads_to}
 use Rattle.history_model.specs.Queries.{is_a, is_child_of, is_parent_of, says_is_kind, source_of, destination_of, refset_of, is_replaced_by, is_member_of, component_of, member_component}
@@ -16,7 +18,9 @@ use Rattle.links.specs.declared.posting.Tag.TheVariants as tags
 use Rattle.links.specs.declared.wanted.Seconds.TheVariants as seconds
 use Rattle.links.specs.declared.wanted.Wanted.{Wanted}
 use Rattle.links.specs.Edges.{RowKey, row_key, plain_key, keys_of_relationship, keys_of_body, tag_place}
-use Rattle.links.specs.Private.Asking.{is_between, is_wanted, all_with, sources_with, IsPath}
+use Rattle.links.specs.Selection.{is_between, is_second, is_wanted, IsPath, IsMemberPath}
+use Rattle.links.specs.declared.wanted.Seconds.{Seconds}
+use Rattle.links.specs.Private.Asking.{all_with, sources_with}
 use Rattle.links.specs.Private.Memberships.{members_with}
 
 or_false : (b : Bool) → b ≡ (b || false)
@@ -26,10 +30,6 @@ or_false false = refl
 and_false : (b : Bool) → (b && false) ≡ false
 and_false true = refl
 and_false false = refl
-
-none_of_three : (a c : Bool) → (a && false && c) ≡ false
-none_of_three true c = refl
-none_of_three false c = refl
 
 -- no posting is wanted
 none_if : (w : Wanted) (c : Bool) (ks : List RowKey) → list_any (is_wanted w) ks ≡ false → false ≡ list_any (is_wanted w) (if c then ks else [])
@@ -168,60 +168,66 @@ module _ (id : ℕ) where
 
 -- ---- members
 
-any_active : (t a : Bool) → a ≡ (((t || true) && a) || false)
-any_active true true = refl
-any_active true false = refl
-any_active false true = refl
-any_active false false = refl
+-- a member is one of the kind
+pub member_kind : (refset : ℕ) (b : Body) → is_member_of refset b ≡ true → kind_of_body b ≡ Member
+member_kind refset (body.Concept c) e = absurd (cc)
+member_kind refset (body.Description d) e = absurd (cc)
+member_kind refset (body.Relationship r) e = absurd (cc)
+member_kind refset (body.Association a) e = absurd (cc)
+member_kind refset (body.Concrete c) e = absurd (cc)
+member_kind refset (body.Member m) e = refl
 
-as_asked : (t a b : Bool) → (t && a && b) ≡ (((b && (t || false)) && a) || false)
-as_asked true true true = refl
-as_asked true true false = refl
-as_asked true false true = refl
-as_asked true false false = refl
-as_asked false true true = refl
-as_asked false true false = refl
-as_asked false false true = refl
-as_asked false false false = refl
+or_true : (a : Bool) → (a || true) ≡ true
+or_true true = refl
+or_true false = refl
+
+last_first : (a b c : Bool) → (a && b && c) ≡ ((c && (a || false)) && b)
+last_first true true true = refl
+last_first true true false = refl
+last_first true false true = refl
+last_first true false false = refl
+last_first false true true = refl
+last_first false true false = refl
+last_first false false true = refl
+last_first false false false = refl
+
+module _ (refset : ℕ) (those : Seconds) (only_active : Bool) where
+  abbrev members : Wanted
+  members = members_with refset those only_active
+
+  -- what says of a body that it is of a member that is wanted
+  abbrev pub is_wanted_member : Bool → Body → Bool
+  is_wanted_member active b = is_second those (member_component b) && (active || not only_active) && is_member_of refset b
+
+  body_path : (active : Bool) (b : Body) → is_wanted_member active b ≡ list_any (is_wanted members) (keys_of_body active b)
+  body_path active (body.Concept c) = and_false (is_second those 0 && (active || not only_active))
+  body_path active (body.Description d) = and_false (is_second those 0 && (active || not only_active))
+  body_path active (body.Relationship r) = and_false (is_second those 0 && (active || not only_active)) ∙ none_if members active (keys_of_relationship r.source r.type_id r.destination) (none_leads members r.source r.type_id r.destination refl refl)
+  body_path active (body.Association a) = and_false (is_second those 0 && (active || not only_active)) ∙ none_if members active (target_keys a.target a.refset) refl
+  body_path active (body.Concrete c) = and_false (is_second those 0 && (active || not only_active))
+  body_path active (body.Member m) = or_false (is_wanted_member active (body.Member m))
+
+  -- each test that says the same has these members as its path
+  pub path_of_wanted : (test : RowValue → Bool) → ((row : RowValue) → test row ≡ is_wanted_member row.active row.body) → IsMemberPath test members
+  path_of_wanted test same = record {
+    path = λ row. same row ∙ body_path row.active row.body;
+    of_kind = λ row e. member_kind refset row.body (and_parts (is_second those (component_of row) && (row.active || not only_active)) (is_member_of refset row.body) (sym (same row) ∙ e)).1;
+  }
 
 module _ (refset : ℕ) where
-  member_path : (active : Bool) (b : Body) → is_member_of refset b ≡ list_any (is_wanted (members_with refset (seconds.Between None None) false)) (keys_of_body active b)
-  member_path active (body.Concept c) = refl
-  member_path active (body.Description d) = refl
-  member_path active (body.Relationship r) = none_if (members_with refset (seconds.Between None None) false) active (keys_of_relationship r.source r.type_id r.destination) (none_leads (members_with refset (seconds.Between None None) false) r.source r.type_id r.destination refl refl)
-  member_path active (body.Association a) = none_if (members_with refset (seconds.Between None None) false) active (target_keys a.target a.refset) refl
-  member_path active (body.Concrete c) = refl
-  member_path active (body.Member m) = any_active active (m.refset == refset)
-
-  pub path_of_members : IsPath (λ row. is_member_of refset row.body) (members_with refset (seconds.Between None None) false)
-  path_of_members row = member_path row.active row.body
-
-  value_path : (after last : Option ℕ) (active : Bool) (b : Body) → (active && is_member_of refset b && is_between after last (member_component b)) ≡ list_any (is_wanted (members_with refset (seconds.Between after last) true)) (keys_of_body active b)
-  value_path after last active (body.Concept c) = none_of_three active (is_between after last 0)
-  value_path after last active (body.Description d) = none_of_three active (is_between after last 0)
-  value_path after last active (body.Relationship r) = none_of_three active (is_between after last 0) ∙ none_if (members_with refset (seconds.Between after last) true) active (keys_of_relationship r.source r.type_id r.destination) (none_leads (members_with refset (seconds.Between after last) true) r.source r.type_id r.destination refl refl)
-  value_path after last active (body.Association a) = none_of_three active (is_between after last 0) ∙ none_if (members_with refset (seconds.Between after last) true) active (target_keys a.target a.refset) refl
-  value_path after last active (body.Concrete c) = none_of_three active (is_between after last 0)
-  value_path after last active (body.Member m) = as_asked active (m.refset == refset) (is_between after last m.referenced)
+  pub path_of_members : IsMemberPath (λ row. is_member_of refset row.body) (members_with refset (seconds.Between None None) false)
+  path_of_members = path_of_wanted refset (seconds.Between None None) false _ (λ row. ap (λ a. a && is_member_of refset row.body) (sym (or_true row.active)))
 
   -- an active member that refers to a component greater than `after` and at most `last`, if these are given
   abbrev pub is_value_between : Option ℕ → Option ℕ → RowValue → Bool
   is_value_between after last row = row.active && is_member_of refset row.body && is_between after last (component_of row)
 
   pub path_of_values : (after last : Option ℕ) → IsPath (is_value_between after last) (members_with refset (seconds.Between after last) true)
-  path_of_values after last row = value_path after last row.active row.body
-
-  about_path : (component : ℕ) (active : Bool) (b : Body) → (active && is_member_of refset b && member_component b == component) ≡ list_any (is_wanted (members_with refset (seconds.Only component) true)) (keys_of_body active b)
-  about_path component active (body.Concept c) = none_of_three active (0 == component)
-  about_path component active (body.Description d) = none_of_three active (0 == component)
-  about_path component active (body.Relationship r) = none_of_three active (0 == component) ∙ none_if (members_with refset (seconds.Only component) true) active (keys_of_relationship r.source r.type_id r.destination) (none_leads (members_with refset (seconds.Only component) true) r.source r.type_id r.destination refl refl)
-  about_path component active (body.Association a) = none_of_three active (0 == component) ∙ none_if (members_with refset (seconds.Only component) true) active (target_keys a.target a.refset) refl
-  about_path component active (body.Concrete c) = none_of_three active (0 == component)
-  about_path component active (body.Member m) = as_asked active (m.refset == refset) (m.referenced == component)
+  path_of_values after last = (path_of_wanted refset (seconds.Between after last) true _ (λ row. last_first row.active (is_member_of refset row.body) (is_between after last (component_of row)))).path
 
   -- an active member that refers to the component
   abbrev pub is_member_about : ℕ → RowValue → Bool
   is_member_about component row = row.active && is_member_of refset row.body && component_of row == component
 
   pub path_of_members_about : (component : ℕ) → IsPath (is_member_about component) (members_with refset (seconds.Only component) true)
-  path_of_members_about component row = about_path component row.active row.body
+  path_of_members_about component = (path_of_wanted refset (seconds.Only component) true _ (λ row. last_first row.active (is_member_of refset row.body) (component_of row == component))).path

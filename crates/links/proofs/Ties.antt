@@ -15,7 +15,7 @@ use Rattle.list_lemmas.proofs.Parts.{take_whole, drop_whole, taken_at_most}
 use Rattle.list_lemmas.proofs.Each.{each_of_mapped}
 use Rattle.list_lemmas.proofs.Kept.{length-filter-map}
 use Rattle.as_of_index.specs.Private.Search.{SplitsAt}
-use Rattle.links.specs.Private.Asking.{is_up_to}
+use Rattle.links.specs.Selection.{is_up_to}
 use Rattle.links.specs.Private.Memberships.{count_lesser, IsCutAt}
 
 -- ---- how many are below a number

@@ -31,15 +31,16 @@ use Rattle.as_of_index.proofs.Current.{standing_row}
 use Rattle.as_of_index.specs.Current.{rows_seen}
 use Rattle.links.specs.declared.finding.Asked.{Asked}
 use Rattle.links.specs.Edges.{Edges}
+use Rattle.links.specs.Selection.{is_between}
 use Rattle.links.specs.Private.{postings_in}
-use Rattle.links.specs.Private.Asking.{is_between, AreFound}
+use Rattle.links.specs.Private.Asking.{AreFound}
 use Rattle.links.specs.Private.Memberships.{asked_values, IsCutAt}
 use Rattle.links.specs.Laws.{EachPosted}
 use Rattle.links.proofs.Between.{wanted_parts}
 use Rattle.links.proofs.FoundRows.{IsRowFound, row_kept, own_row, rows_from_found}
-use Rattle.links.proofs.Paths.{is_value_between, path_of_values, second_at, second_is}
+use Rattle.links.proofs.Paths.{member_kind, is_value_between, path_of_values, second_at, second_is}
 use Rattle.links.proofs.Ranked.{one_id}
-use Rattle.links.proofs.MemberAnswers.{member_kind, values_up_to, values_up_to_all, values_up_to_ascend}
+use Rattle.links.proofs.MemberAnswers.{values_up_to, values_up_to_all, values_up_to_ascend}
 use Rattle.links.proofs.MemberPages.{stand_take, enough_rows}
 use Rattle.links.proofs.Ties.{Rising, cut_up_to}
 

@@ -15,6 +15,7 @@ pub use Rattle.as_of_index.specs.Postings
 pub use Rattle.as_of_index.specs.Numbers
 pub use Rattle.as_of_index.specs.Merging
 pub mod Edges
+pub mod Selection
 pub mod Laws
 pub mod MergedEdges
 pub mod Private

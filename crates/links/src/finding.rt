@@ -11,9 +11,10 @@ ghost use Rattle.as_of_index.specs.Reader.{IsRowsRead};
 ghost use Rattle.as_of_index.specs.Private.Once.{AreOnce};
 ghost use Rattle.as_of_index.specs.Private.Postings.{numbered};
 ghost use Rattle.links.specs.Laws.{EachPosted};
+ghost use Rattle.links.specs.Selection.{IsPath};
 ghost use Rattle.links.specs.Private.{Takes, postings_in};
 ghost use Rattle.links.specs.Private.Asking.{is_asked, placed, GivesPlace, AreGiven, AreFound};
-ghost use Rattle.links.specs.Private.Asking.{asked_for, placed_cmp, selected, IsPath};
+ghost use Rattle.links.specs.Private.Asking.{asked_for, placed_cmp, selected};
 
 use crate::Links;
 use crate::posting::Posting;

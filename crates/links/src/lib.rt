@@ -29,13 +29,14 @@ pub use ever_about::timeline;
 pub use hierarchy::children;
 pub use incoming::sources;
 pub use languages::called;
-pub use member_pages::members;
+pub use member_pages::{member_page, members};
 pub use merging::Merging;
 pub use posting::{Posting, Tag};
 pub use postings::{Postings, Sealed, Subject};
 pub use reaching::{ancestors, descendants};
 pub use subjects::about;
 pub use value_sets::values;
+pub use wanted::{Seconds, Wanted};
 
 /// The postings of several lists of rows, in the order of these lists.
 pub type Links = PerList<Sealed>;

@@ -4,7 +4,8 @@ ghost use Rattle.std.specs.Prelude.{◌≡◌, ◌≤◌, ◌↔◌};
 ghost use Rattle.std.specs.List.Sorted.{IsNonDecreasingBy};
 ghost use Rattle.history_model.specs.InOrder.{Has};
 ghost use Rattle.links.specs.Edges.{rank_of};
-ghost use Rattle.links.specs.Private.Asking.{is_up_to, is_between, is_second, is_wanted, key_of};
+ghost use Rattle.links.specs.Selection.{is_up_to, is_between, is_second, is_wanted};
+ghost use Rattle.links.specs.Private.Asking.{key_of};
 ghost use Rattle.links.specs.Private.Asking.{low_rank, high_rank, all_with, sources_with};
 
 use crate::posting::{Posting, Tag, place_of, rank, rank_of};
@@ -12,7 +13,7 @@ use as_of_index::is_above;
 
 /// Which second numbers are wanted.
 #[derive(Clone, Copy)]
-pub(crate) enum Seconds {
+pub enum Seconds {
     /// Those greater than the first number and at most the second, if these are given.
     Between(Option<u64>, Option<u64>),
     /// This one alone.
@@ -21,12 +22,15 @@ pub(crate) enum Seconds {
 
 /// The postings of a tag and a first number, with some second numbers.
 #[derive(Clone, Copy)]
-pub(crate) struct Wanted {
-    pub(crate) tag: Tag,
-    pub(crate) first: u64,
-    pub(crate) seconds: Seconds,
+pub struct Wanted {
+    /// What the numbers are.
+    pub tag: Tag,
+    /// The first number.
+    pub first: u64,
+    /// The second numbers.
+    pub seconds: Seconds,
     /// Whether only postings of active rows are wanted.
-    pub(crate) active: bool,
+    pub active: bool,
 }
 
 /// All postings of a tag and a first number.

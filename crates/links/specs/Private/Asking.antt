@@ -21,26 +21,10 @@ use Rattle.links.specs.declared.wanted.Seconds.{Seconds}
 use Rattle.links.specs.declared.wanted.Seconds.TheVariants as seconds
 use Rattle.links.specs.declared.wanted.Wanted.{Wanted}
 use Rattle.links.specs.declared.finding.Asked.{Asked}
-use Rattle.links.specs.Edges.{RowKey, row_key, keys_of, tag_place, posting_rank}
-
--- the number is at most `last`, if that is given
-abbrev pub is_up_to : Option ℕ → ℕ → Bool
-is_up_to None n = true
-is_up_to (Some last) n = nat_le n last
-
-abbrev pub is_between : Option ℕ → Option ℕ → ℕ → Bool
-is_between after last n = is_above after n && is_up_to last n
+use Rattle.links.specs.Edges.{RowKey, row_key, posting_rank}
+use Rattle.links.specs.Selection.{is_between, is_wanted}
 
 -- ---- postings
-
-abbrev pub is_second : Seconds → ℕ → Bool
-is_second (seconds.Between after last) n = is_between after last n
-is_second (seconds.Only number) n = n == number
-
--- the key is a wanted one
-abbrev pub is_wanted : Wanted → RowKey → Bool
-is_wanted w k = tag_place k.tag == tag_place w.tag && is_second w.seconds k.second
-    && (k.active || not w.active) && k.first == w.first
 
 -- by which key the posting's row is found
 abbrev pub key_of : Posting → RowKey
@@ -64,10 +48,6 @@ abbrev pub high_rank : Wanted → ℕ
 high_rank w = high_from w.tag w.first w.seconds
 
 -- ---- rows
-
--- a row passes the test exactly if one of its postings is wanted: all that a question has to show
-abbrev pub IsPath : (RowValue → Bool) → Wanted → Type 0
-IsPath test w = (row : RowValue) → test row ≡ list_any (is_wanted w) (keys_of row)
 
 -- all postings of a tag and a first number
 abbrev pub all_with : Tag → ℕ → Wanted

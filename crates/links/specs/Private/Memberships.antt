@@ -1,6 +1,6 @@
 -- Definitions about members of reference sets, for private functions and proofs. No public clause
 -- cites them.
-use Rattle.std.specs.Prelude.{◌≡◌, ◌≤◌, ◌<◌, ◌++◌, ℕ, Bool, true, false, List, [], ◌∷◌, length}
+use Rattle.std.specs.Prelude.{◌≡◌, ◌≤◌, ◌<◌, ◌++◌, ℕ, Bool, true, List, [], ◌∷◌, length}
 use Rattle.std.specs.Prelude.{take, drop, nat_lt, Option, Some, None}
 use Rattle.std.specs.List.{filter, AllByRecursion}
 use Rattle.history_model.specs.declared.stamped.StampedRow.{StampedRow}
@@ -20,15 +20,10 @@ abbrev pub members_with : ℕ → Seconds → Bool → Wanted
 members_with refset those active =
     record { tag = tags.Member; first = refset; seconds = those; active = active }
 
--- all members, active or not, with ids greater than `after` and at most `last`, if these are given
-abbrev pub asked_above : ℕ → AsOf → Option ℕ → Option ℕ → Asked
-asked_above refset as_of after last =
-    record {
-      wanted = members_with refset (seconds.Between None None) false;
-      above = after;
-      up_to = last;
-      as_of = as_of;
-    }
+-- the wanted ones with ids greater than `after` and at most `last`, if these are given
+abbrev pub asked_above : Wanted → AsOf → Option ℕ → Option ℕ → Asked
+asked_above wanted as_of after last =
+    record { wanted = wanted; above = after; up_to = last; as_of = as_of }
 
 -- the active members that refer to a component greater than `after` and at most `last`, if these
 -- are given

@@ -3,8 +3,9 @@ use Rattle.std.proofs.lemmas.Bool.{and_parts}
 use Rattle.as_of_index.specs.Private.Postings.{numbered}
 use Rattle.links.specs.declared.posting.Posting.{Posting}
 use Rattle.links.specs.Edges.{Edges}
+use Rattle.links.specs.Selection.{is_between, is_wanted}
 use Rattle.links.specs.Private.{postings_in}
-use Rattle.links.specs.Private.Asking.{is_between, is_wanted, key_of, GivesPlace, AreGiven}
+use Rattle.links.specs.Private.Asking.{key_of, GivesPlace, AreGiven}
 use Rattle.links.proofs.Between.{none_given, more_given, wanted_within}
 use Rattle.links.proofs.Numbering.{numbered-more}
 use Rattle.links.proofs.finding.find.Goals as goal
