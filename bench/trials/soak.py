@@ -94,6 +94,7 @@ FORMS = """4 GET {kind} {id} {date}
 3 ABOUT {kind} {subject} {date}
 2 TIMELINE {kind} {subject}
 2 MEMBERS {refset} {date} {after_M} {limit}
+2 ACTIVE {refset} {date} {after_M} {limit}
 2 VALUES {refset} {date} {after_value} {limit}
 2 CALLED {named}
 1 {days}

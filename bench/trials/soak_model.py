@@ -28,7 +28,7 @@ LINE_LIMIT = 4096
 NO_ARGUMENTS, NO_SUCH_IMPORT = ["ERR 43 Arguments"], ["ERR 44 PinRange"]
 # What needs members is refused with below layout 3: these, and questions with the letter M.
 LATER_LAYOUT = ["ERR 14 LaterVersion"]
-OF_MEMBERS = ("members", "values", "called")
+OF_MEMBERS = ("members", "active", "values", "called")
 
 
 class Fault(NamedTuple):
@@ -231,6 +231,12 @@ class Model:
         if not is_sctid_of(OF_CONCEPTS, refset) or is_sctid_of(OF_COMPONENTS, after):
             return NO_ARGUMENTS
         return self.page(pin, "M", date, after, limit, lambda columns: columns[REFSET] == refset)
+
+    def ask_active(self, pin: int, refset: str, date: str, after: str, limit: str) -> Reply:
+        if not is_sctid_of(OF_CONCEPTS, refset) or is_sctid_of(OF_COMPONENTS, after):
+            return NO_ARGUMENTS
+        return self.page(pin, "M", date, after, limit,
+                         lambda columns: columns[REFSET] == refset and columns[2] == "1")
 
     def active(self, pin: int, kind: str, date: str) -> Iterator[Columns]:
         """The active rows of a kind at a date, ascending."""

@@ -12,7 +12,7 @@ QUESTIONS = frozenset((
     b"GET", b"HISTORY", b"ABOUT", b"TIMELINE", b"CHILDREN", b"ANCESTORS", b"DESCENDANTS", b"SEARCH",
     b"TERMS", b"WORDS", b"REPLACED", b"REPLACES", b"PAGE", b"DELTA", b"MEMBERS", b"VALUES",
     b"CALLED", b"SOURCES", b"ROWS", b"ADDED", b"DATES", b"RECEIPT", b"DIGEST", b"AT", b"STATUS",
-    b"PIN", b"UNPIN"))
+    b"PIN", b"UNPIN", b"ACTIVE"))
 # Those that may change the store.
 CHANGES = frozenset((b"IMPORT", b"CHECK", b"MERGE", b"STEP", b"PUBLISH", b"ABANDON", b"TRIM"))
 # What follows the first word of a line, the lines of replies, and one reply.

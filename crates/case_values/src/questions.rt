@@ -2,8 +2,8 @@
 //!
 //! `get KIND ID DATE` asks for the component's row at the date, `versions KIND ID`, `replacements
 //! ID DATE`, `replaces ID DATE`, `about KIND ID DATE`, `timeline KIND ID`, `page KIND DATE AFTER
-//! LIMIT`, `delta KIND FROM DATE AFTER LIMIT`, `members REFSET DATE AFTER LIMIT`, `values REFSET
-//! DATE AFTER LIMIT`, `called ID DATE REFSET`, `terms DATE LIMIT "PREFIX"`, `search DATE AFTER LIMIT
+//! LIMIT`, `delta KIND FROM DATE AFTER LIMIT`, `members REFSET DATE AFTER LIMIT`, `active` and
+//! `values` with the same, `called ID DATE REFSET`, `terms DATE LIMIT "PREFIX"`, `search DATE AFTER LIMIT
 //! "PREFIX"` and `words DATE TYPE OFFSET LIMIT "TEXT"` ask for rows, `children ID DATE`,
 //! `descendants ID DATE` and `ancestors ID DATE` for identifiers, as `sources TYPE ID DATE AFTER
 //! LIMIT` does, and `dates` for days. `rows KIND ID DATE LIMIT` asks for all rows of a kind behind a
@@ -26,6 +26,7 @@ pub enum Question {
     Page(Kind, EffectiveTime, Option<u128>, u32),
     Delta(Kind, EffectiveTime, EffectiveTime, Option<u128>, u32),
     Members(Sctid, EffectiveTime, Option<u128>, u32),
+    ActiveMembers(Sctid, EffectiveTime, Option<u128>, u32),
     Values(Sctid, EffectiveTime, Option<u64>, u32),
     Called(Sctid, EffectiveTime, Sctid),
     Terms(EffectiveTime, u32),
@@ -94,6 +95,10 @@ fn ask_of_refset(word: &str, words: &[&str]) -> Result<Question, NoAnswer> {
         ("members", [refset, date, after, limit]) => {
             let (refset, date) = (sctid_of(*refset)?, day_of(*date)?);
             Ok(Question::Members(refset, date, above(*after)?, number(*limit)?))
+        }
+        ("active", [refset, date, after, limit]) => {
+            let (refset, date) = (sctid_of(*refset)?, day_of(*date)?);
+            Ok(Question::ActiveMembers(refset, date, above(*after)?, number(*limit)?))
         }
         ("values", [refset, date, after, limit]) => {
             let (refset, date) = (sctid_of(*refset)?, day_of(*date)?);
@@ -168,7 +173,7 @@ fn question_of(word: &str, words: &[&str]) -> Result<Question, NoAnswer> {
         ("children" | "descendants" | "ancestors", _) => ask_of_component(word, words),
         ("page", _) => ask_for_page(words),
         ("delta", _) => ask_for_delta(words),
-        ("members" | "values" | "called", _) => ask_of_refset(word, words),
+        ("members" | "active" | "values" | "called", _) => ask_of_refset(word, words),
         ("sources", _) => ask_for_sources(words),
         ("words", _) => ask_for_words(words),
         ("rows", _) => ask_for_rows(words),

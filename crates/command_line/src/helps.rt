@@ -56,6 +56,8 @@ Questions of reference sets, which are concepts, as 723264001:
                                  behind it
   0 MEMBERS 723264001 20210131 - 100
                                  all members, from the first UUID on
+  0 ACTIVE 723264001 20210131 - 100
+                                 the active ones of these
 
 Questions of an audit:
   0 ANCESTORS 1000004 20210131       all concepts above the concept

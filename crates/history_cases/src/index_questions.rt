@@ -6,8 +6,8 @@ use as_of_index::{AsOf, ReadFault, RowReader};
 use case_files::{Answer, NoAnswer};
 use case_values::Question;
 use links::{
-    about, ancestors, called, children, descendants, members, replacements, replaces, sources,
-    timeline, values,
+    Seconds, Tag, Wanted, about, ancestors, called, children, descendants, member_page, members,
+    replacements, replaces, sources, timeline, values,
 };
 use rf2_values::Row;
 use std::alloc::{AllocError, Global};
@@ -90,6 +90,16 @@ pub fn rows_found<R: RowReader>(
         Question::Members(refset, date, after, limit) => {
             let as_of = AsOf { date, pin };
             members(alloc, links, index, reader, refset, as_of, after, limit)
+        }
+        Question::ActiveMembers(refset, date, after, limit) => {
+            let as_of = AsOf { date, pin };
+            let wanted = Wanted {
+                tag: Tag::Member,
+                first: refset.value(),
+                seconds: Seconds::Between(None, None),
+                active: true,
+            };
+            member_page(alloc, links, index, reader, wanted, as_of, after, limit)
         }
         Question::Values(refset, date, after, limit) => {
             let as_of = AsOf { date, pin };

@@ -42,6 +42,9 @@ fn find<'a>(
         Question::Members(refset, date, after, limit) => {
             plain_history::members(alloc, shown, refset, date, after, limit)?
         }
+        Question::ActiveMembers(refset, date, after, limit) => {
+            plain_history::active_members(alloc, shown, refset, date, after, limit)?
+        }
         Question::Values(refset, date, after, limit) => {
             plain_history::values(alloc, shown, refset, date, after, limit)?
         }

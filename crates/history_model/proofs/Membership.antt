@@ -18,7 +18,7 @@ use Rattle.rf2_values.specs.Key.{kind_place}
 use Rattle.history_model.specs.InOrder.{Has, IsAscending, joined}
 use Rattle.history_model.specs.History.{row_cmp}
 use Rattle.history_model.specs.Queries.{is_kind, is_above, is_kind_above, snapshot, all_above, about}
-use Rattle.history_model.specs.Queries.{is_member_of, is_member_above, members_above, members, component_of, is_value_above, value_cmp, values_above, is_among_first, values, members_about, with_others, called}
+use Rattle.history_model.specs.Queries.{is_member_of, is_member_above, members_above, members, is_active_above, active_above, active_members, component_of, is_value_above, value_cmp, values_above, is_among_first, values, members_about, with_others, called}
 use Rattle.history_model.specs.Laws.{by_id}
 use Rattle.history_model.specs.Membership.{MembersAreOfTheKind, EachIsOfOneSet}
 use Rattle.history_model.specs.Membership.{ValuesAreAll, ValuesAreTheActiveMembers, ValuesAreTheFirstWithTies, ValuesFillTheLimit, last_component}
@@ -97,7 +97,24 @@ pub members_cons : (refset date : ℕ) (after : Option ℕ) (rows : List RowValu
 unfolding members_above
 members_cons refset date after rows b ys up here = above_cons (λ row. is_member_of refset row.body) after (snapshot rows date) b ys (Rises-members refset date after rows up) here
 
--- ---- the active members
+-- ---- the active members, by id
+
+Rises-active : (refset date : ℕ) (after : Option ℕ) (rows : List RowValue) → IsAscending row_cmp rows → Rises (is_active_above refset after) (λ row. row.id) (snapshot rows date)
+Rises-active refset date after rows up =
+    Rises-current (is_active_above refset after) Member rows date
+    (λ x e. member_kind refset x.body (and_parts x.active (is_member_of refset x.body) (and_parts (x.active && is_member_of refset x.body) (is_above after x.id) e).0).1)
+    (snapshot rows date) (IsAscending-snapshot rows date up) (λ x there. current_from_snapshot rows date x there)
+
+pub active_ascend : (refset date : ℕ) (after : Option ℕ) (limit : ℕ) (rows : List RowValue) → IsAscending row_cmp rows → IsAscending by_id (active_members refset date after limit rows)
+unfolding active_members active_above
+active_ascend refset date after limit rows up =
+    IsAscending-take by_id limit _ (ascends (is_active_above refset after) (λ row. row.id) (snapshot rows date) (Rises-active refset date after rows up))
+
+pub active_cons : (refset date : ℕ) (after : Option ℕ) (rows : List RowValue) (b : RowValue) (ys : List RowValue) → IsAscending row_cmp rows → active_above refset date after rows ≡ b ∷ ys → active_above refset date after rows ≡ b ∷ active_above refset date (Some b.id) rows
+unfolding active_above
+active_cons refset date after rows b ys up here = above_cons (λ row. row.active && is_member_of refset row.body) after (snapshot rows date) b ys (Rises-active refset date after rows up) here
+
+-- ---- the active members, by the component that they refer to
 
 record IsValueRow (refset : ℕ) (after : Option ℕ) (row : RowValue) : Type 0 where
   active : row.active ≡ true

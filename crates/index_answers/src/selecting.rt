@@ -13,7 +13,9 @@ ghost use Rattle.index_answers.specs.Keys.{is_put_in_order};
 ghost use Rattle.index_answers.specs.Words.{lacks_words};
 
 use as_of_index::{AsOf, Index, ReadFault, RowReader};
-use links::{about, called, members, replacements, replaces, timeline, values};
+use links::{
+    Seconds, Tag, Wanted, about, called, member_page, members, replacements, replaces, timeline, values,
+};
 use question_model::RowQuestion;
 use rf2_values::{Kind, Row, Sctid};
 use segment_index::StoreIndex;
@@ -161,6 +163,21 @@ pub fn select<R: RowReader>(
         } => {
             let as_of = AsOf { date, pin };
             Some(members(alloc, links, places, reader, refset, as_of, after, limit))
+        }
+        RowQuestion::ActiveMembers {
+            refset,
+            date,
+            after,
+            limit,
+        } => {
+            let as_of = AsOf { date, pin };
+            let wanted = Wanted {
+                tag: Tag::Member,
+                first: refset.value(),
+                seconds: Seconds::Between(None, None),
+                active: true,
+            };
+            Some(member_page(alloc, links, places, reader, wanted, as_of, after, limit))
         }
         RowQuestion::Values {
             refset,

@@ -5,7 +5,7 @@ use Rattle.std.proofs.lemmas.Bool.{false≢true}
 use Rattle.question_model.specs.declared.question.Question.{Question as RustQuestion}
 use Rattle.question_model.specs.Questions.{Question, Get, History, Children, Ancestors, Descendants}
 use Rattle.question_model.specs.Questions.{Terms, Search, Replaced, Replaces, About, Timeline, Page}
-use Rattle.question_model.specs.Questions.{Delta, Members, Values, Called, Dates, Digest, Receipt}
+use Rattle.question_model.specs.Questions.{Delta, Members, ActiveMembers, Values, Called, Dates, Digest, Receipt}
 use Rattle.question_model.specs.Questions.{ForRows, ForIds, AllRows, Sources, Added, Words as AskWords}
 use Rattle.line_commands.specs.declared.words.Words.{Words}
 use Rattle.line_commands.specs.declared.words.QuestionWord.{QuestionWord}
@@ -34,6 +34,7 @@ each (ForRows (Timeline kind id)) asking.Timeline P e h = h kind id
 each (ForRows (Page kind date after limit)) asking.Page P e h = h kind date after limit
 each (ForRows (Delta kind from date after limit)) asking.Delta P e h = h kind from date after limit
 each (ForRows (Members refset date after limit)) asking.Members P e h = h refset date after limit
+each (ForRows (ActiveMembers refset date after limit)) asking.ActiveMembers P e h = h refset date after limit
 each (ForRows (Values refset date after limit)) asking.Values P e h = h refset date after limit
 each (ForRows (Called id date refset)) asking.Called P e h = h id date refset
 each (ForRows (AllRows kind after limit)) asking.AllRows P e h = h kind after limit
@@ -103,6 +104,7 @@ module _ (xs ys : List (List ℕ)) (same : behind xs ≡ behind ys) where
   one_of (ForRows (Page kind date after limit)) s = (asking.Page, refl, λ l day since most t. let e = agree (ForRows (Page kind date after limit)) (ForRows (Page l day since most)) refl (search rules) s t in λ i. ForRows (Page (e.0 i) (e.1.0 i) (e.1.1.0 i) (e.1.1.1.0 i)))
   one_of (ForRows (Delta kind from date after limit)) s = (asking.Delta, refl, λ l first day since most t. let e = agree (ForRows (Delta kind from date after limit)) (ForRows (Delta l first day since most)) refl (search rules) s t in λ i. ForRows (Delta (e.0 i) (e.1.0 i) (e.1.1.0 i) (e.1.1.1.0 i) (e.1.1.1.1.0 i)))
   one_of (ForRows (Members refset date after limit)) s = (asking.Members, refl, λ other day since most t. let e = agree (ForRows (Members refset date after limit)) (ForRows (Members other day since most)) refl (search rules) s t in λ i. ForRows (Members (e.0 i) (e.1.0 i) (e.1.1.0 i) (e.1.1.1.0 i)))
+  one_of (ForRows (ActiveMembers refset date after limit)) s = (asking.ActiveMembers, refl, λ other day since most t. let e = agree (ForRows (ActiveMembers refset date after limit)) (ForRows (ActiveMembers other day since most)) refl (search rules) s t in λ i. ForRows (ActiveMembers (e.0 i) (e.1.0 i) (e.1.1.0 i) (e.1.1.1.0 i)))
   one_of (ForRows (Values refset date after limit)) s = (asking.Values, refl, λ other day since most t. let e = agree (ForRows (Values refset date after limit)) (ForRows (Values other day since most)) refl (search rules) s t in λ i. ForRows (Values (e.0 i) (e.1.0 i) (e.1.1.0 i) (e.1.1.1.0 i)))
   one_of (ForRows (Called id date refset)) s = (asking.Called, refl, λ jd day other t. let e = agree (ForRows (Called id date refset)) (ForRows (Called jd day other)) refl (search rules) s t in λ i. ForRows (Called (e.0 i) (e.1.0 i) (e.1.1.0 i)))
   one_of (ForRows (AllRows kind after limit)) s = (asking.AllRows, refl, λ l since most t. let e = agree (ForRows (AllRows kind after limit)) (ForRows (AllRows l since most)) refl (search rules) s t in λ i. ForRows (AllRows (e.0 i) (same_key kind l after since e.1.0 e.1.1.0 i) (e.1.1.1.0 i)))

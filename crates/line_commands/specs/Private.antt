@@ -16,7 +16,7 @@ use Rattle.question_model.specs.Questions.{Question, question_of, ForRows, ForId
 use Rattle.question_model.specs.Questions.{Receipt, Added, Get, History, Terms, Search, Replaced}
 use Rattle.question_model.specs.Questions.{Replaces, About}
 use Rattle.question_model.specs.Questions.{Timeline, Page, Delta, Members, Values, Called, AllRows}
-use Rattle.question_model.specs.Questions.{Words as AskWords}
+use Rattle.question_model.specs.Questions.{Words as AskWords, ActiveMembers}
 use Rattle.question_model.specs.Questions.{Children, Ancestors, Descendants, Sources}
 use Rattle.line_commands.specs.Commands.{Command, Ask, word_of, SpellsArguments}
 use Rattle.line_commands.specs.Requests.{command_of, spaced}
@@ -47,6 +47,7 @@ example asking.Timeline = ForRows (Timeline kinds.Concept 0)
 example asking.Page = ForRows (Page kinds.Concept 0 None 0)
 example asking.Delta = ForRows (Delta kinds.Concept 0 0 None 0)
 example asking.Members = ForRows (Members 0 0 None 0)
+example asking.ActiveMembers = ForRows (ActiveMembers 0 0 None 0)
 example asking.Values = ForRows (Values 0 0 None 0)
 example asking.Called = ForRows (Called 0 0 0)
 example asking.AllRows = ForRows (AllRows kinds.Concept None 0)
@@ -85,6 +86,8 @@ EachOf asking.Delta P = (kind : Kind) (from date : ℕ) (after : Option ℕ) (li
     → P (ForRows (Delta kind from date after limit))
 EachOf asking.Members P = (refset date : ℕ) (after : Option ℕ) (limit : ℕ)
     → P (ForRows (Members refset date after limit))
+EachOf asking.ActiveMembers P = (refset date : ℕ) (after : Option ℕ) (limit : ℕ)
+    → P (ForRows (ActiveMembers refset date after limit))
 EachOf asking.Values P = (refset date : ℕ) (after : Option ℕ) (limit : ℕ)
     → P (ForRows (Values refset date after limit))
 EachOf asking.Called P = (id date refset : ℕ) → P (ForRows (Called id date refset))

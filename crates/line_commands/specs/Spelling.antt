@@ -11,7 +11,7 @@ use Rattle.word_model.specs.Words.{words}
 use Rattle.question_model.specs.Questions.{Question, ForRows, ForIds, Dates, Digest, Receipt, Added}
 use Rattle.question_model.specs.Questions.{Get, History, Terms, Search, Replaced, Replaces, About}
 use Rattle.question_model.specs.Questions.{Timeline, Page, Delta, Members, Values, Called, AllRows}
-use Rattle.question_model.specs.Questions.{Words}
+use Rattle.question_model.specs.Questions.{Words, ActiveMembers}
 use Rattle.question_model.specs.Questions.{Children, Ancestors, Descendants, Sources}
 
 -- the greatest number of rows that can be asked for
@@ -136,6 +136,8 @@ form (ForRows (Delta kind from date after limit)) =
     (codes "DELTA", ForKind kind ∷ Date from ∷ Date date ∷ page (OfKind kind) after limit)
 form (ForRows (Members refset date after limit)) =
     (codes "MEMBERS", concept refset ∷ Date date ∷ page (OfKind kinds.Member) after limit)
+form (ForRows (ActiveMembers refset date after limit)) =
+    (codes "ACTIVE", concept refset ∷ Date date ∷ page (OfKind kinds.Member) after limit)
 form (ForRows (Values refset date after limit)) =
     (codes "VALUES", concept refset ∷ Date date ∷ page OfComponents after limit)
 form (ForRows (Called id date refset)) =

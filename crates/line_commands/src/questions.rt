@@ -182,6 +182,21 @@ fn members(words: Words<'_>) -> Option<Question<'_>>
     }))
 }
 
+fn active_members(words: Words<'_>) -> Option<Question<'_>>
+    ensures { IsQuestionOf QuestionWord.ActiveMembers words.entry result }
+{
+    let refset = sctid_of(words.first, Class::Concept)?;
+    let date = date(words.second)?;
+    let first = after(Kind::Member, words.third)?;
+    let limit = limit(words.fourth, MOST_ROWS)?;
+    Some(Question::ForRows(RowQuestion::ActiveMembers {
+        refset,
+        date,
+        after: first,
+        limit,
+    }))
+}
+
 fn values(words: Words<'_>) -> Option<Question<'_>>
     ensures { IsQuestionOf QuestionWord.Values words.entry result }
 {
@@ -276,6 +291,7 @@ fn columns_of(word: QuestionWord) -> usize
         QuestionWord::Search
         | QuestionWord::Page
         | QuestionWord::Members
+        | QuestionWord::ActiveMembers
         | QuestionWord::Values
         | QuestionWord::AllRows => 4,
         QuestionWord::Words | QuestionWord::Delta | QuestionWord::Sources | QuestionWord::Added =>
@@ -303,6 +319,7 @@ fn read(word: QuestionWord, words: Words<'_>) -> Option<Question<'_>>
         QuestionWord::Page => page(words),
         QuestionWord::Delta => delta(words),
         QuestionWord::Members => members(words),
+        QuestionWord::ActiveMembers => active_members(words),
         QuestionWord::Values => values(words),
         QuestionWord::Called => called(words),
         QuestionWord::AllRows => all_rows(words),

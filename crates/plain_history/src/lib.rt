@@ -22,7 +22,7 @@ pub use edges::{about, children, replacements};
 pub use exports::rows_of_kind;
 pub use hierarchy::{ancestors, descendants, parents};
 pub use known::KnownRows;
-pub use membership::{called, members, values};
+pub use membership::{active_members, called, members, values};
 pub use relationships::sources;
 pub use releases::{accepts, after_release, import_receipt, receipt, rows_at};
 pub use snapshots::{get, page, snapshot, versions};

@@ -9,7 +9,7 @@ ghost use Rattle.history_model.specs.Queries.{is_above, is_current, is_about};
 ghost use Rattle.history_model.specs.Queries.{is_member_of, is_member_above, members_above};
 ghost use Rattle.history_model.specs.Queries.{members, component_of, is_value_above, value_cmp};
 ghost use Rattle.history_model.specs.Queries.{values_above, is_among_first, values};
-ghost use Rattle.history_model.specs.Queries.{members_about, with_others, called};
+ghost use Rattle.history_model.specs.Queries.{members_about, with_others, called, active_members};
 
 use crate::edges::about;
 use crate::snapshots::{is_above, is_current};
@@ -86,6 +86,34 @@ pub fn members(
     let mut found = members_above(alloc, rows, refset, date, after)?;
     found.truncate(limit as usize);
     Ok(found)
+}
+
+/// Removes the rows that aren't active.
+fn keep_active(rows: &mut Vec<&Row>)
+    ensures { map (λ row. row.now) rows.new.items
+        ≡ filter (λ row. row.active) (map (λ row. row.now) rows.old.items) }
+{
+    rows.retain(|row| row.active);
+}
+
+/// The first `limit` active members of the reference set at the date, with ids greater than `after`,
+/// if that is given.
+pub fn active_members(
+    alloc: Global,
+    rows: &[Row],
+    refset: Sctid,
+    date: EffectiveTime,
+    after: Option<u128>,
+    limit: u32,
+) -> Result<Vec<&Row>, AllocError>
+    // promise: an_answer_is_the_defined_one
+    ensures { IfOk result (λ found. map (λ row. row.now) found.items
+        ≡ active_members refset date after limit rows.now) }
+{
+    let mut active = members_above(alloc, rows, refset, date, after)?;
+    keep_active(&mut active);
+    active.truncate(limit as usize);
+    Ok(active)
 }
 
 /// The component that a member refers to.

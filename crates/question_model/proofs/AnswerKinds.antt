@@ -12,7 +12,7 @@ use Rattle.rf2_values.specs.Row.{RowValue, kind_of, kind_of_body}
 use Rattle.history_model.specs.InOrder.{Has, in_order}
 use Rattle.history_model.specs.Queries.{is_kind, is_version_of, is_above, is_kind_above, is_changed_above, snapshot, get, versions, all_above, page, changed_above, delta, begins_with, is_term, terms, is_term_above, terms_above, search_terms}
 use Rattle.history_model.specs.Queries.{refers_to, is_replacement_of, replacement_cmp, replacements, has_target, is_replaced_by, replaced_cmp, replaces, is_subject, subject_of, is_about, about, was_about, timeline}
-use Rattle.history_model.specs.Queries.{is_member_of, is_member_above, members_above, members, component_of, is_value_above, value_cmp, values_above, is_among_first, values, members_about, with_others, called}
+use Rattle.history_model.specs.Queries.{is_member_of, is_member_above, members_above, members, is_active_above, active_above, active_members, component_of, is_value_above, value_cmp, values_above, is_among_first, values, members_about, with_others, called}
 use Rattle.history_model.specs.Exports.{is_kind_after, all_of_kind, rows_of_kind}
 use Rattle.history_model.specs.KeyOrder.{is_after}
 use Rattle.history_model.proofs.InOrder.{Has-put_all_cases}
@@ -20,7 +20,7 @@ use Rattle.history_model.proofs.Filtered.{Has-filter}
 use Rattle.history_model.proofs.Items.{Has-take, Has-drop, Has-flat_map}
 use Rattle.history_model.proofs.Snapshots.{kind_from_test}
 use Rattle.word_model.specs.Words.{words, says_words, has_words, shortest_cmp, words_found, some_words_found}
-use Rattle.question_model.specs.Questions.{Get, History, Terms, Search, Replaced, Replaces, About, Timeline, Page, Delta, Members, Values, Called, AllRows, Words}
+use Rattle.question_model.specs.Questions.{Get, History, Terms, Search, Replaced, Replaces, About, Timeline, Page, Delta, Members, ActiveMembers, Values, Called, AllRows, Words}
 use Rattle.question_model.specs.Laws.{RowsAreOfKinds}
 
 -- ---- what passes a test
@@ -89,7 +89,7 @@ called_kinds concept date refset rows z h =
 -- ---- each question
 
 pub rows_are_of_kinds : RowsAreOfKinds
-unfolding get versions terms search_terms terms_above some_words_found words_found replacements replaces timeline page all_above delta changed_above members members_above values values_above rows_of_kind all_of_kind
+unfolding get versions terms search_terms terms_above some_words_found words_found replacements replaces timeline page all_above delta changed_above members members_above active_members active_above values values_above rows_of_kind all_of_kind
 rows_are_of_kinds (Get kind id date) rows row h = inl (sym (kind_from_test kind row (and_parts (is_kind kind row) (row.id == id) (found_passes (is_version_of kind id) (snapshot rows date) row h)).0))
 rows_are_of_kinds (History kind id) rows row h = inl (sym (kind_from_test kind row (and_parts (is_kind kind row) (row.id == id) (passes (is_version_of kind id) rows row h)).0))
 rows_are_of_kinds (Terms prefix date limit) rows row h = inl (sym (term_kind prefix row.body (and_parts row.active (begins_with prefix row.body) (passes (is_term prefix) (snapshot rows date) row (Has-take limit _ row h))).1))
@@ -106,6 +106,9 @@ rows_are_of_kinds (Delta kind from date after limit) rows row h =
     let p = and_parts (is_kind_above kind after row) (nat_lt from row.time) (passes (is_changed_above kind from after) (snapshot rows date) row (Has-take limit _ row h)) in
     inl (sym (kind_from_test kind row (and_parts (is_kind kind row) (is_above after row.id) p.0).0))
 rows_are_of_kinds (Members refset date after limit) rows row h = inl (sym (member_kind refset row.body (and_parts (is_member_of refset row.body) (is_above after row.id) (passes (is_member_above refset after) (snapshot rows date) row (Has-take limit _ row h))).0))
+rows_are_of_kinds (ActiveMembers refset date after limit) rows row h =
+    let p = and_parts (row.active && is_member_of refset row.body) (is_above after row.id) (passes (is_active_above refset after) (snapshot rows date) row (Has-take limit _ row h)) in
+    inl (sym (member_kind refset row.body (and_parts row.active (is_member_of refset row.body) p.0).1))
 rows_are_of_kinds (Values refset date after limit) rows row h =
     let kept = (Has-filter (is_among_first limit (values_above refset date after rows)) (values_above refset date after rows) row h).0 in
     inl (sym (member_is refset after row (passes (is_value_above refset after) (snapshot rows date) row (ordered_has value_cmp _ row kept))))

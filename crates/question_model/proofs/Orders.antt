@@ -8,7 +8,7 @@ use Rattle.history_model.specs.Laws.{by_id}
 use Rattle.history_model.proofs.Chains.{pinned_stays}
 use Rattle.history_model.proofs.Ascents.{versions_ascend, page_ascends, terms_ascend, children_ascend, replacements_ascend, about_ascends, search_ascends}
 use Rattle.history_model.proofs.Audits.{delta_ascends, timeline_ascends, replaces_ascend}
-use Rattle.history_model.proofs.Membership.{members_ascend, values_ascend, called_ascend}
+use Rattle.history_model.proofs.Membership.{members_ascend, active_ascend, values_ascend, called_ascend}
 use Rattle.history_model.proofs.Relationships.{sources_ascend}
 use Rattle.history_model.proofs.Exports.{rows_of_kind_ascend}
 use Rattle.history_model.proofs.InOrder.{IsAscending-in_order}
@@ -20,7 +20,7 @@ use Rattle.word_model.specs.Words.{has_words, words, shortest_cmp, term_length, 
 use Rattle.history_model.proofs.Hierarchy.{one_list_of_descendants, one_list_of_ancestors}
 use Rattle.history_model.proofs.Ways.{each_has_descendants, each_has_ancestors}
 use Rattle.history_model.specs.Queries.{get}
-use Rattle.question_model.specs.Questions.{Get, History, Terms, Search, Replaced, Replaces, About, Timeline, Page, Delta, Members, Values, Called, AllRows, Words}
+use Rattle.question_model.specs.Questions.{Get, History, Terms, Search, Replaced, Replaces, About, Timeline, Page, Delta, Members, ActiveMembers, Values, Called, AllRows, Words}
 use Rattle.question_model.specs.Questions.{IdQuestion, Children, Ancestors, Descendants, Sources}
 use Rattle.question_model.specs.Wanted.{rows_for, AreIdsFor}
 use Rattle.question_model.specs.Laws.{RowsStay, IdsStay, RowsAscend, IdsAscend, OneListOfIds}
@@ -60,6 +60,7 @@ rows_ascend (Timeline kind id) rows up = timeline_ascends kind id rows up
 rows_ascend (Page kind date after limit) rows up = page_ascends rows up kind date after limit
 rows_ascend (Delta kind from date after limit) rows up = delta_ascends kind from date after limit rows up
 rows_ascend (Members refset date after limit) rows up = members_ascend refset date after limit rows up
+rows_ascend (ActiveMembers refset date after limit) rows up = active_ascend refset date after limit rows up
 rows_ascend (Values refset date after limit) rows up = values_ascend refset date after limit rows
 rows_ascend (Called concept date refset) rows up = called_ascend concept date refset rows up
 rows_ascend (AllRows kind after limit) rows up = rows_of_kind_ascend kind after limit rows up

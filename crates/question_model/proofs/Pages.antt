@@ -8,7 +8,7 @@ use Rattle.rf2_values.specs.Row.{RowValue}
 use Rattle.history_model.specs.InOrder.{Has, IsAscending, joined}
 use Rattle.history_model.specs.History.{row_cmp}
 use Rattle.history_model.specs.Laws.{last_by}
-use Rattle.history_model.specs.Queries.{page, all_above, search_terms, terms_above, delta, changed_above, members, members_above, values, values_above}
+use Rattle.history_model.specs.Queries.{page, all_above, search_terms, terms_above, delta, changed_above, members, members_above, active_members, active_above, values, values_above}
 use Rattle.history_model.specs.Membership.{last_component}
 use Rattle.history_model.proofs.Snapshots.{page_cons}
 use Rattle.history_model.proofs.Paging.{take_short, goes_on, are_all, ends, search_cons}
@@ -16,8 +16,8 @@ use Rattle.rf2_values.specs.Key.{key_of}
 use Rattle.history_model.specs.Exports.{all_of_kind, rows_of_kind}
 use Rattle.history_model.proofs.Exports.{kind_first}
 use Rattle.history_model.proofs.Audits.{changed_cons}
-use Rattle.history_model.proofs.Membership.{members_cons, few_values_are_all, values_and_the_rest, none_above, joined_are_all, some_end}
-use Rattle.question_model.specs.Questions.{RowQuestion, Search, Page, Delta, Members, Values, AllRows, Words}
+use Rattle.history_model.proofs.Membership.{members_cons, active_cons, few_values_are_all, values_and_the_rest, none_above, joined_are_all, some_end}
+use Rattle.question_model.specs.Questions.{RowQuestion, Search, Page, Delta, Members, ActiveMembers, Values, AllRows, Words}
 use Rattle.word_model.specs.Words.{words_found, some_words_found}
 use Rattle.question_model.specs.Wanted.{rows_for}
 use Rattle.question_model.specs.Laws.{limit_of, all_for, after_page, ArePages, PageAndTheRest, ShortPageIsLast, PagesAreAll, PagesEnd}
@@ -84,11 +84,12 @@ module _ (date : ℕ) (wanted_type : Option ℕ) (limit : ℕ) (text : List ℕ)
 -- ---- each question
 
 pub short_page_is_last : ShortPageIsLast
-unfolding page search_terms delta members rows_of_kind some_words_found
+unfolding page search_terms delta members active_members rows_of_kind some_words_found
 short_page_is_last (Search prefix date after limit) most rows is short = take_short limit (terms_above prefix date after rows) (own_most limit most _ is short)
 short_page_is_last (Page kind date after limit) most rows is short = take_short limit (all_above kind date after rows) (own_most limit most _ is short)
 short_page_is_last (Delta kind from date after limit) most rows is short = take_short limit (changed_above kind from date after rows) (own_most limit most _ is short)
 short_page_is_last (Members refset date after limit) most rows is short = take_short limit (members_above refset date after rows) (own_most limit most _ is short)
+short_page_is_last (ActiveMembers refset date after limit) most rows is short = take_short limit (active_above refset date after rows) (own_most limit most _ is short)
 short_page_is_last (Values refset date after limit) most rows is short = few_values_are_all refset date after limit rows (own_most limit most _ is short)
 short_page_is_last (AllRows kind after limit) most rows is short = take_short limit (all_of_kind kind after rows) (own_most limit most _ is short)
 short_page_is_last (Words date wanted_type offset limit text) most rows is short = take_short limit (drop offset (words_found date wanted_type text rows)) (own_most limit most _ is short)
@@ -158,11 +159,12 @@ own_turns : (question : RowQuestion) (limit most : ℕ) (rows : List RowValue) �
 own_turns question limit most rows is = subst (λ n. Turns question n rows) (same_Some limit most is)
 
 turns : (question : RowQuestion) (most : ℕ) (rows : List RowValue) → limit_of question ≡ Some most → IsAscending row_cmp rows → Turns question most rows
-unfolding page search_terms delta members rows_of_kind
+unfolding page search_terms delta members active_members rows_of_kind
 turns (Search prefix date after limit) most rows is up = own_turns _ limit most rows is (turns_from its_id (λ id. Search prefix date id limit) (λ id. terms_above prefix date id rows) limit rows (λ id b ys e. search_cons prefix date id rows b ys up e) (λ id. refl) (λ id. refl) (λ id found. refl) after)
 turns (Page kind date after limit) most rows is up = own_turns _ limit most rows is (turns_from its_id (λ id. Page kind date id limit) (λ id. all_above kind date id rows) limit rows (λ id b ys e. page_cons kind date id rows b ys up e) (λ id. refl) (λ id. refl) (λ id found. refl) after)
 turns (Delta kind from date after limit) most rows is up = own_turns _ limit most rows is (turns_from its_id (λ id. Delta kind from date id limit) (λ id. changed_above kind from date id rows) limit rows (λ id b ys e. changed_cons kind from date id rows b ys up e) (λ id. refl) (λ id. refl) (λ id found. refl) after)
 turns (Members refset date after limit) most rows is up = own_turns _ limit most rows is (turns_from its_id (λ id. Members refset date id limit) (λ id. members_above refset date id rows) limit rows (λ id b ys e. members_cons refset date id rows b ys up e) (λ id. refl) (λ id. refl) (λ id found. refl) after)
+turns (ActiveMembers refset date after limit) most rows is up = own_turns _ limit most rows is (turns_from its_id (λ id. ActiveMembers refset date id limit) (λ id. active_above refset date id rows) limit rows (λ id b ys e. active_cons refset date id rows b ys up e) (λ id. refl) (λ id. refl) (λ id found. refl) after)
 turns (Values refset date after limit) most rows is up = own_turns _ limit most rows is (values_turns refset date limit rows up after)
 turns (AllRows kind after limit) most rows is up = own_turns _ limit most rows is (turns_from key_of (λ key. AllRows kind key limit) (λ key. all_of_kind kind key rows) limit rows (kind_first kind rows up) (λ key. refl) (λ key. refl) (λ key found. refl) after)
 turns (Words date wanted_type offset limit text) most rows is up = own_turns _ limit most rows is (words_turns date wanted_type offset limit text rows)

@@ -8,7 +8,7 @@ use Rattle.rf2_values.specs.Row.{RowValue, kind_of}
 use Rattle.history_model.specs.InOrder.{Has, IsAscending, joined}
 use Rattle.history_model.specs.History.{History, IsHistory, row_cmp, after_release, rows_at}
 use Rattle.history_model.specs.Queries.{is_kind, all_above, terms_above, changed_above, members_above}
-use Rattle.history_model.specs.Queries.{values_above, replacement_cmp, replaced_cmp, value_cmp}
+use Rattle.history_model.specs.Queries.{active_above, values_above, replacement_cmp, replaced_cmp, value_cmp}
 use Rattle.history_model.specs.Laws.{by_id, by_time, last_id}
 use Rattle.history_model.specs.Audit.{by_version}
 use Rattle.history_model.specs.Membership.{last_component}
@@ -16,7 +16,7 @@ use Rattle.history_model.specs.Exports.{all_of_kind, last_key}
 use Rattle.word_model.specs.Words.{shortest_cmp, words_found}
 use Rattle.question_model.specs.Questions.{RowQuestion, Get, History as AskHistory, Terms, Search, Replaced}
 use Rattle.question_model.specs.Questions.{Replaces, About, Timeline, Page, Delta, Members, Values, Called}
-use Rattle.question_model.specs.Questions.{AllRows, Words}
+use Rattle.question_model.specs.Questions.{AllRows, Words, ActiveMembers}
 use Rattle.question_model.specs.Questions.{IdQuestion}
 use Rattle.question_model.specs.Wanted.{rows_for, kinds_for, AreIdsFor}
 
@@ -91,6 +91,7 @@ limit_of (Timeline kind id) = None
 limit_of (Page kind date after limit) = Some limit
 limit_of (Delta kind from date after limit) = Some limit
 limit_of (Members refset date after limit) = Some limit
+limit_of (ActiveMembers refset date after limit) = Some limit
 limit_of (Values refset date after limit) = Some limit
 limit_of (Called concept date refset) = None
 limit_of (AllRows kind after limit) = Some limit
@@ -101,6 +102,7 @@ all_for (Search prefix date after limit) rows = terms_above prefix date after ro
 all_for (Page kind date after limit) rows = all_above kind date after rows
 all_for (Delta kind from date after limit) rows = changed_above kind from date after rows
 all_for (Members refset date after limit) rows = members_above refset date after rows
+all_for (ActiveMembers refset date after limit) rows = active_above refset date after rows
 all_for (Values refset date after limit) rows = values_above refset date after rows
 all_for (AllRows kind after limit) rows = all_of_kind kind after rows
 all_for (Words date wanted_type offset limit text) rows =
@@ -116,6 +118,8 @@ after_page (Delta kind from date after limit) found =
     Delta kind from date (last_id after found) limit
 after_page (Members refset date after limit) found =
     Members refset date (last_id after found) limit
+after_page (ActiveMembers refset date after limit) found =
+    ActiveMembers refset date (last_id after found) limit
 after_page (Values refset date after limit) found =
     Values refset date (last_component after found) limit
 after_page (AllRows kind after limit) found = AllRows kind (last_key after found) limit

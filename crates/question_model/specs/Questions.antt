@@ -23,6 +23,7 @@ pub data RowQuestion : Type 0 where
   Page : (kind : Kind) (date : ℕ) (after : Option ℕ) (limit : ℕ) → RowQuestion
   Delta : (kind : Kind) (from date : ℕ) (after : Option ℕ) (limit : ℕ) → RowQuestion
   Members : (refset date : ℕ) (after : Option ℕ) (limit : ℕ) → RowQuestion
+  ActiveMembers : (refset date : ℕ) (after : Option ℕ) (limit : ℕ) → RowQuestion
   Values : (refset date : ℕ) (after : Option ℕ) (limit : ℕ) → RowQuestion
   Called : (concept date refset : ℕ) → RowQuestion
   AllRows : (kind : Kind) (after : Option Key) (limit : ℕ) → RowQuestion
@@ -59,6 +60,8 @@ row_question_of (rows.Timeline kind id) = Timeline kind id
 row_question_of (rows.Replaced id date) = Replaced id date
 row_question_of (rows.Replaces id date) = Replaces id date
 row_question_of (rows.Members refset date after limit) = Members refset date after limit
+row_question_of (rows.ActiveMembers refset date after limit) =
+    ActiveMembers refset date after limit
 row_question_of (rows.Values refset date after limit) = Values refset date after limit
 row_question_of (rows.Called concept date refset) = Called concept date refset
 row_question_of (rows.AllRows kind after limit) = AllRows kind after limit

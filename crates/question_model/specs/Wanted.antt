@@ -5,14 +5,14 @@ use Rattle.rf2_values.specs.declared.row.Kind.TheVariants.{Description, Associat
 use Rattle.rf2_values.specs.Row.{RowValue}
 use Rattle.history_model.specs.Queries.{get, versions, page, delta, terms, search_terms, about}
 use Rattle.history_model.specs.Queries.{timeline, replacements, replaces, members, values, called}
-use Rattle.history_model.specs.Queries.{children}
+use Rattle.history_model.specs.Queries.{active_members, children}
 use Rattle.history_model.specs.Hierarchy.{AreAncestors, AreDescendants}
 use Rattle.history_model.specs.Relationships.{sources}
 use Rattle.history_model.specs.Exports.{rows_of_kind}
 use Rattle.word_model.specs.Words.{some_words_found}
 use Rattle.question_model.specs.Questions.{RowQuestion, Get, History, Terms, Search, Replaced, Replaces}
 use Rattle.question_model.specs.Questions.{About, Timeline, Page, Delta, Members, Values, Called}
-use Rattle.question_model.specs.Questions.{AllRows, Words}
+use Rattle.question_model.specs.Questions.{AllRows, Words, ActiveMembers}
 use Rattle.question_model.specs.Questions.{IdQuestion, Children, Ancestors, Descendants, Sources}
 
 -- the rows that a question asks for
@@ -30,6 +30,8 @@ rows_for (Timeline kind id) rows = timeline kind id rows
 rows_for (Page kind date after limit) rows = page kind date after limit rows
 rows_for (Delta kind from date after limit) rows = delta kind from date after limit rows
 rows_for (Members refset date after limit) rows = members refset date after limit rows
+rows_for (ActiveMembers refset date after limit) rows =
+    active_members refset date after limit rows
 rows_for (Values refset date after limit) rows = values refset date after limit rows
 rows_for (Called concept date refset) rows = called concept date refset rows
 rows_for (AllRows kind after limit) rows = rows_of_kind kind after limit rows
@@ -48,6 +50,7 @@ kinds_for (Timeline kind id) = kind ∷ []
 kinds_for (Page kind date after limit) = kind ∷ []
 kinds_for (Delta kind from date after limit) = kind ∷ []
 kinds_for (Members refset date after limit) = Member ∷ []
+kinds_for (ActiveMembers refset date after limit) = Member ∷ []
 kinds_for (Values refset date after limit) = Member ∷ []
 kinds_for (Called concept date refset) = Description ∷ Member ∷ []
 kinds_for (AllRows kind after limit) = kind ∷ []

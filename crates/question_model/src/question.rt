@@ -95,6 +95,13 @@ pub enum RowQuestion<'a> {
         after: Option<u128>,
         limit: u32,
     },
+    /// Those of them that are active.
+    ActiveMembers {
+        refset: Sctid,
+        date: EffectiveTime,
+        after: Option<u128>,
+        limit: u32,
+    },
     /// The active members of a reference set that refer to a component greater than `after`, if
     /// that is given, ascending by that component, then by id: the first `limit`, and with the last
     /// of them all that refer to the same component.
@@ -139,7 +146,9 @@ impl RowQuestion<'_> {
             RowQuestion::Replaced { .. } | RowQuestion::Replaces { .. } => {
                 kind == Kind::Association
             }
-            RowQuestion::Members { .. } | RowQuestion::Values { .. } => kind == Kind::Member,
+            RowQuestion::Members { .. }
+            | RowQuestion::ActiveMembers { .. }
+            | RowQuestion::Values { .. } => kind == Kind::Member,
             RowQuestion::Called { .. } => kind == Kind::Description || kind == Kind::Member,
         }
     }

@@ -20,7 +20,7 @@ PLAIN = QUESTIONS - {b"AT", b"DIGEST"}
 DATES = {
     b"TERMS": 1, b"WORDS": 1, b"SEARCH": 1, b"CHILDREN": 2, b"ANCESTORS": 2, b"DESCENDANTS": 2,
     b"CALLED": 2, b"REPLACED": 2, b"REPLACES": 2, b"PAGE": 2, b"MEMBERS": 2, b"VALUES": 2,
-    b"GET": 3, b"ABOUT": 3, b"SOURCES": 3, b"DELTA": 3}
+    b"ACTIVE": 2, b"GET": 3, b"ABOUT": 3, b"SOURCES": 3, b"DELTA": 3}
 DATE_DIGITS = 8
 # Lines that the hub carries out itself.
 BACKUP = b"BACKUP"

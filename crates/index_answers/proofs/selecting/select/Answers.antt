@@ -1,9 +1,13 @@
-use Rattle.std.proofs.Common.{List, None, refl}
+use Rattle.std.proofs.Common.{List, None, true, refl, sym, ap}
+use Rattle.std.specs.Prelude.{◌&&◌}
+use Rattle.links.specs.declared.wanted.Seconds.TheVariants as seconds
+use Rattle.std.proofs.Math.Bool.{or-false}
+use Rattle.links.proofs.Paths.{path_of_wanted}
 use Rattle.rf2_values.specs.Row.{RowValue}
 use Rattle.history_model.specs.declared.stamped.StampedRow.{StampedRow}
 use Rattle.history_model.specs.History.{rows_at}
 use Rattle.history_model.specs.Lists.{listed}
-use Rattle.history_model.specs.Queries.{terms, search_terms}
+use Rattle.history_model.specs.Queries.{is_member_of, active_above, active_members, terms, search_terms}
 use Rattle.history_model.proofs.Paging.{search_from_the_first}
 use Rattle.index_answers.proofs.Kept.{of_index, wanting}
 use Rattle.index_answers.proofs.selecting.select.Goals as goal
@@ -48,6 +52,13 @@ returns-in-Replaces-clause-answer g c = rw c.in-Replaces.is (refl, of_index c.ar
 
 pub returns-in-Members-clause-answer : goal.returns-in-Members-clause-answer
 returns-in-Members-clause-answer g c = rw c.in-Members.is (refl, of_index c.args.index.now.lists c.members.ensures.answer (c.places-places.ensures, c.links-links.ensures))
+
+pub returns-in-ActiveMembers-clause-answer : goal.returns-in-ActiveMembers-clause-answer
+unfolding active_members active_above
+returns-in-ActiveMembers-clause-answer g c =
+    let refset = c.in-ActiveMembers.refset in
+    let path = path_of_wanted refset (seconds.Between None None) true (λ row. row.active && is_member_of refset row.body) (λ row. ap (λ a. a && is_member_of refset row.body) (sym (or-false row.active))) in
+    rw c.in-ActiveMembers.is (refl, of_index c.args.index.now.lists (c.member_page.ensures.answer (λ row. row.active && is_member_of refset row.body) (rw c.value.ensures.value path)) (c.places-places.ensures, c.links-links.ensures))
 
 pub returns-in-Values-clause-answer : goal.returns-in-Values-clause-answer
 returns-in-Values-clause-answer g c = rw c.in-Values.is (refl, of_index c.args.index.now.lists c.values.ensures.answer (c.places-places.ensures, c.links-links.ensures))
