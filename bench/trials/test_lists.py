@@ -138,8 +138,8 @@ def killed_before(library: Library, call: str, path: str) -> Iterator[dict[str, 
 
 
 def test_kills(place: Place, library: Library) -> None:
-    """Before whichever call an import is killed: one that is done has its line or lacks it, which
-    the next start tells, and one that isn't done has none."""
+    """Before whichever of these calls an import is killed: one that is done has its line or lacks
+    it, which the next start tells, and one that isn't done has none."""
     store, nights, lines = place.make_store(), place.write_nights(MOST_KILLS), list[str]()
     ends, moments = Counter[tuple[bool, bool]](), itertools.chain.from_iterable(
         killed_before(library, call, path) for call, path in KILLED_BEFORE)
