@@ -1,5 +1,5 @@
 """Isn't started: reads the tables of faults, the files *_faults.txt beside it, and the changes in
-rattle/three_crates/."""
+rattle/small_crates/."""
 
 from collections import Counter
 from collections.abc import Iterator

@@ -1,9 +1,9 @@
 #!/usr/bin/env python3
-"""Tries which changes make an edit stale, on a tree of three small crates.
+"""Tries which changes make an edit stale, on a tree of four small crates.
 
 try_grounds.py
 
-A record is written of the tree three_crates/. There crates.txt is called uses.txt, and sources have
+A record is written of the tree small_crates/. There crates.txt is called uses.txt, and sources have
 .txt behind their names, since rt takes each such file of a repository for one of its crates. Each
 change of changes.txt puts a text in the place of another one, and names the edits that are stale by
 that record then, as grounds.py finds. A line tells each change that isn't so. The last line counts
@@ -23,7 +23,7 @@ from pathlib import Path
 sys.path.append(str(Path(__file__).resolve().parents[1] / "faults"))
 from fault_tables import Fault, faults_in  # noqa: E402
 
-TREE = Path(__file__).with_name("three_crates")
+TREE = Path(__file__).with_name("small_crates")
 SCRIPTS = ("edits.py", "grounds.py", "source.py")
 
 # Prints the edits of the tree, in which the scripts stand, that are stale by its record; or writes

@@ -2,6 +2,14 @@
 
 use case_files::{Answer, NoAnswer};
 use std::alloc::Global;
+use std::fmt::Write;
+
+/// Reads a byte, in hexadecimal.
+pub fn byte_of(digits: &str) -> Result<u8, NoAnswer> {
+    u8::from_str_radix(digits, 16)
+        .ok()
+        .ok_or(NoAnswer::NoQuestion)
+}
 
 /// Reads bytes that are written with two hexadecimal digits each.
 pub fn read_hex(alloc: Global, digits: &str) -> Result<Vec<u8>, NoAnswer> {
@@ -9,10 +17,7 @@ pub fn read_hex(alloc: Global, digits: &str) -> Result<Vec<u8>, NoAnswer> {
     let mut rest = digits;
     for _ in 0..digits.len() / 2 {
         let (pair, behind) = rest.split_at_checked(2).ok_or(NoAnswer::NoQuestion)?;
-        let Ok(byte) = u8::from_str_radix(pair, 16) else {
-            return Err(NoAnswer::NoQuestion);
-        };
-        bytes.push(byte)?;
+        bytes.push(byte_of(pair)?)?;
         rest = behind;
     }
     if !rest.is_empty() {
@@ -25,8 +30,7 @@ pub fn read_hex(alloc: Global, digits: &str) -> Result<Vec<u8>, NoAnswer> {
 pub fn spell_hex(alloc: Global, bytes: &[u8]) -> Answer {
     let mut text = String::new(alloc);
     for byte in bytes {
-        let digits = format!(in alloc; "{byte:02x}")?;
-        text.push_str(digits.as_str())?;
+        write!(text, "{byte:02x}")?;
     }
     Ok(text)
 }
@@ -38,8 +42,7 @@ pub fn spell_block(alloc: Global, block: &[u8]) -> Answer {
         if line.iter().any(|byte| *byte != 0) {
             let digits = spell_hex(alloc, line)?;
             let offset = number.saturating_mul(16);
-            let line = format!(in alloc; "{offset}: {digits}\n")?;
-            text.push_str(line.as_str())?;
+            writeln!(text, "{offset}: {digits}")?;
         }
     }
     Ok(text.trim_end().to_string(alloc)?)

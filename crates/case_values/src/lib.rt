@@ -9,9 +9,14 @@ mod questions;
 mod texts;
 mod words;
 
-pub use disks::{call_disk, choice_of, spell_done, spell_number, spell_part};
+pub use disks::{
+    ask_disk, call_disk, choice_of, image, or_failed, or_fault, spell_done, spell_number,
+    spell_option, spell_part, spell_yes, turned,
+};
 pub use groups::Groups;
-pub use hex::{read_hex, spell_block, spell_hex};
+pub use hex::{byte_of, read_hex, spell_block, spell_hex};
 pub use questions::{Question, read_question};
 pub use texts::{line_of, read_row, row_bytes, row_text, spell_id, spell_text};
-pub use words::{day_of, first_word, kind_of, number, sctid_of, shape_of, split_prefix};
+pub use words::{
+    day_of, first_word, kind_of, number, sctid_of, shape_of, split_prefix, three_words,
+};

@@ -9,7 +9,7 @@
 //! LIMIT` does, and `dates` for days. `rows KIND ID DATE LIMIT` asks for all rows of a kind behind a
 //! key. AFTER is a number or `-`, as are TYPE and both ID and DATE of a key.
 
-use crate::words::{above, component_above, day_of, kind_of, number, sctid_of};
+use crate::words::{above, day_of, kind_of, number, sctid_of};
 use case_files::NoAnswer;
 use rf2_rows::{EffectiveTime, Key, Kind, Sctid};
 use std::alloc::Global;
@@ -97,7 +97,7 @@ fn ask_of_refset(word: &str, words: &[&str]) -> Result<Question, NoAnswer> {
         }
         ("values", [refset, date, after, limit]) => {
             let (refset, date) = (sctid_of(*refset)?, day_of(*date)?);
-            Ok(Question::Values(refset, date, component_above(*after)?, number(*limit)?))
+            Ok(Question::Values(refset, date, above(*after)?, number(*limit)?))
         }
         ("called", [id, date, refset]) => {
             Ok(Question::Called(sctid_of(*id)?, day_of(*date)?, sctid_of(*refset)?))
@@ -130,7 +130,7 @@ fn ask_for_sources(words: &[&str]) -> Result<Question, NoAnswer> {
     };
     let type_id = type_of(*type_id)?;
     let (id, date) = (sctid_of(*id)?, day_of(*date)?);
-    Ok(Question::Sources(type_id, id, date, component_above(*after)?, number(*limit)?))
+    Ok(Question::Sources(type_id, id, date, above(*after)?, number(*limit)?))
 }
 
 /// Reads a question for all rows of a kind.

@@ -9,15 +9,19 @@ pub fn first_word(words: &str) -> Result<(&str, &str), NoAnswer> {
     words.split_once(' ').ok_or(NoAnswer::NoQuestion)
 }
 
+/// Splits a text into its first two words and the words after them.
+pub fn three_words(words: &str) -> Result<(&str, &str, &str), NoAnswer> {
+    let (first, words) = first_word(words)?;
+    let (second, rest) = first_word(words)?;
+    Ok((first, second, rest))
+}
+
 /// Reads a number.
 pub fn number<T: FromStr>(word: &str) -> Result<T, NoAnswer>
 where
     T::Err: Drop,
 {
-    match word.parse::<T>() {
-        Ok(number) => Ok(number),
-        Err(_) => Err(NoAnswer::NoQuestion),
-    }
+    word.parse::<T>().ok().ok_or(NoAnswer::NoQuestion)
 }
 
 /// Reads the name of a kind.
@@ -55,16 +59,11 @@ pub fn day_of(word: &str) -> Result<EffectiveTime, NoAnswer> {
     EffectiveTime::of(number(word)?).ok_or(NoAnswer::NoQuestion)
 }
 
-/// Reads the number that the results have to exceed, or none for `-`.
-pub fn above(word: &str) -> Result<Option<u128>, NoAnswer> {
-    match word {
-        "-" => Ok(None),
-        _ => Ok(Some(number(word)?)),
-    }
-}
-
-/// Reads the component that the results have to exceed, or none for `-`.
-pub fn component_above(word: &str) -> Result<Option<u64>, NoAnswer> {
+/// Reads the number or the component that the results have to exceed, or none for `-`.
+pub fn above<T: FromStr>(word: &str) -> Result<Option<T>, NoAnswer>
+where
+    T::Err: Drop,
+{
     match word {
         "-" => Ok(None),
         _ => Ok(Some(number(word)?)),

@@ -17,8 +17,6 @@
 //!   then. `put-list I J` lets the list do so. They print how many lists' links there are.
 //! - `fails PIN` and a question of `case_values` lets each read for it fail, and prints how many
 //!   there are.
-//! - `reads PIN` and a question for concepts prints how many rows are read for it.
-//! - `taken COUNT COUNT` takes COUNT places of two lists in key order, and then COUNT more.
 //! - `hints COUNT` makes COUNT hints, and `hinted PIN KIND ID DATE` prints, using these hints, the
 //!   list that has the component's row at the date, counted from 0, and the row's day; `place PIN
 //!   KIND ID DATE` prints the same without hints.
@@ -26,215 +24,138 @@
 //!   the date, for a pin.
 
 use crate::case_state::CaseState;
-use crate::expanded::expanded;
-use crate::failing::fail_each_read;
-use crate::index_questions::{Request, ask_index, rows_found};
-use crate::indexed::{Indexed, by_date, list_of, lists_of, spread};
-use crate::plain_questions::ask_plainly;
-use crate::turns::{merge_posted, take_in_turns};
+use crate::indexed::Indexed;
+use crate::listed::{lists_of, spread};
+use crate::posted::PostedLists;
+use crate::told::Request;
 use as_of_index::{AsOf, Hints};
-use case_files::{Answer, NoAnswer, unquoted};
-use case_values::{day_of, first_word, kind_of, number, read_question, split_prefix};
-use history_model::StampedRow;
-use std::alloc::Global;
+use case_files::{Answer, NoAnswer};
+use case_values::{day_of, first_word, kind_of, number};
+use rf2_values::Kind;
+use std::alloc::{AllocError, Global};
 
-/// How many lines an answer has.
-fn count_lines(text: &str) -> usize {
-    if text == "none" {
-        return 0;
+/// The most questions that a line may stand for, with those that are made on the way.
+const MANY: usize = 1_000_000;
+/// How the answer begins if the plain programs and the index answer otherwise.
+const DIFFERS: &str = "plainly ";
+
+/// Adds the texts of a question for each word of its first group, such as `{1,2}`, if it has one.
+fn choose(alloc: Global, text: &str, all: &mut Vec<String>) -> Result<bool, AllocError> {
+    let Some((front, rest)) = text.split_once('{') else {
+        return Ok(false);
+    };
+    let Some((group, behind)) = rest.split_once('}') else {
+        return Ok(false);
+    };
+    for word in group.split(',') {
+        all.push(format!(in alloc; "{front}{word}{behind}")?)?;
     }
-    text.lines().count()
+    Ok(true)
 }
 
-/// The prefix that a text spells, in which a byte may be given by its digits.
-fn prefix_of(alloc: Global, text: &str) -> Answer {
-    let quoted = format!(in alloc; "\"{text}\"")?;
-    match str::from_utf8(&unquoted(alloc, quoted.as_str())?) {
-        Ok(prefix) => Ok(String::from_str(alloc, prefix)?),
-        Err(_) => Err(NoAnswer::NoQuestion),
-    }
-}
-
-/// Posts the merged terms, words and links of two ranges of imports as those of one list.
-fn merge(
-    alloc: Global,
-    rows: &[StampedRow],
-    made: &mut Indexed,
-    words: &str,
-) -> Result<(), NoAnswer> {
-    let (first, words) = first_word(words)?;
-    let (second, many) = first_word(words)?;
-    let many = number(many)?;
-    let first = list_of(alloc, rows, first)?;
-    let second = list_of(alloc, rows, second)?;
-    made.post_merged(alloc, merge_posted(alloc, [&first, &second], many)?)?;
-    Ok(())
-}
-
-/// The numbers of two lists.
-fn two_numbers(words: &str) -> Result<(usize, usize), NoAnswer> {
-    let (i, j) = first_word(words)?;
-    Ok((number(i)?, number(j)?))
-}
-
-/// Replaces two lists by the rows of a range of imports.
-fn put(
-    alloc: Global,
-    rows: &[StampedRow],
-    made: &mut Indexed,
-    words: &str,
-) -> Result<(), NoAnswer> {
-    let (i, words) = first_word(words)?;
-    let (j, range) = first_word(words)?;
-    made.put(
-        alloc,
-        (number(i)?, number(j)?),
-        list_of(alloc, rows, range)?,
-    )
-}
-
-/// Changes an index, or the postings or rows besides it, and returns how many lists there are of
-/// what it changed.
-fn change_index(
-    alloc: Global,
-    rows: &[StampedRow],
-    made: &mut Indexed,
-    word: &str,
-    rest: &str,
-) -> Result<usize, NoAnswer> {
-    match word {
-        "read" => {
-            made.lists = lists_of(alloc, rows, rest)?;
-            return Ok(made.lists.len());
-        }
-        "put" => {
-            put(alloc, rows, made, rest)?;
-            return Ok(made.index.lists());
-        }
-        "posted" => made.post_front(alloc, number(rest)?)?,
-        "post" => made.post_lists(alloc, &lists_of(alloc, rows, rest)?)?,
-        "link" => made.link(alloc, rest)?,
-        "cut" => made.cut_terms(alloc, number(rest)?)?,
-        "put-links" => made.put_links(alloc, two_numbers(rest)?)?,
-        "put-list" => made.put_last(alloc, two_numbers(rest)?)?,
-        _ => merge(alloc, rows, made, rest)?,
-    }
-    Ok(made.links.lists())
+/// Reads a component, and a date and a pin, from `PIN KIND ID DATE`.
+pub(crate) fn component_at(words: &str) -> Result<(Kind, u128, AsOf), NoAnswer> {
+    let (pin, words) = first_word(words)?;
+    let (kind, words) = first_word(words)?;
+    let (id, date) = first_word(words)?;
+    let as_of = AsOf {
+        date: day_of(date)?,
+        pin: number(pin)?,
+    };
+    Ok((kind_of(kind)?, number(id)?, as_of))
 }
 
 impl CaseState {
-    /// What a pin shows, by the plain programs, or by the index if only that is asked; and the
-    /// index's answer if it differs.
-    fn ask(&self, text: &str) -> Result<(String, Option<String>), NoAnswer> {
-        let (pin, text) = first_word(text)?;
-        let (text, prefix) = split_prefix(text)?;
-        let prefix = prefix_of(self.alloc, prefix)?;
-        let request = Request {
-            question: read_question(self.alloc, text)?,
-            pin: number(pin)?,
-        };
-        self.ask_both(request, prefix.as_str())
+    /// The index, if there is one.
+    pub(crate) fn index(&self) -> Result<&Indexed, NoAnswer> {
+        self.made.as_ref().ok_or(NoAnswer::NoQuestion)
     }
 
-    /// The same for a question.
-    fn ask_both(
-        &self,
-        request: Request,
-        prefix: &str,
-    ) -> Result<(String, Option<String>), NoAnswer> {
+    /// What a pin shows, by the plain programs and the index, or by the index alone.
+    pub(crate) fn ask(&self, text: &str) -> Answer {
+        let request = Request::of(self.alloc, text)?;
         let Some(made) = &self.made else {
-            return Ok((self.ask_plainly(request, prefix)?, None));
+            return self.ask_plainly(&request);
         };
-        let indexed = ask_index(self.alloc, made, request, prefix)?;
-        if self.is_alone {
-            return Ok((indexed, None));
+        let indexed = request.ask_index(made)?;
+        if made.is_alone {
+            return Ok(indexed);
         }
-        let found = self.ask_plainly(request, prefix)?;
+        let found = self.ask_plainly(&request)?;
         if found == indexed {
-            return Ok((found, None));
+            return Ok(found);
         }
-        Ok((found, Some(indexed)))
+        Ok(format!(in self.alloc; "{DIFFERS}{found}, and by the index {indexed}")?)
     }
 
     /// The answer of the plain programs.
-    fn ask_plainly(&self, request: Request, prefix: &str) -> Answer {
+    fn ask_plainly(&self, request: &Request) -> Answer {
         let shown = plain_history::rows_at(self.alloc, request.pin, &self.rows)?;
-        ask_plainly(self.alloc, &shown, request.question, prefix)
-    }
-
-    /// What a pin shows.
-    pub(crate) fn ask_at(&self, text: &str) -> Answer {
-        match self.ask(text)? {
-            (found, None) => Ok(found),
-            (found, Some(indexed)) => {
-                Ok(format!(in self.alloc; "{found}, and by the index {indexed}")?)
-            }
-        }
+        request.ask_plainly(&shown)
     }
 
     /// The total number of lines in the answers to the questions that a text stands for.
     pub(crate) fn ask_all(&self, text: &str) -> Answer {
         let text = text.strip_prefix("at ").ok_or(NoAnswer::NoQuestion)?;
+        let mut texts = Vec::new(self.alloc);
+        texts.push(String::from_str(self.alloc, text)?)?;
         let mut count = 0usize;
-        for question in &expanded(self.alloc, text)? {
-            let (found, indexed) = self.ask(question.as_str())?;
-            if let Some(indexed) = indexed {
-                let told = format!(in self.alloc;
-                    "at {question}: {found}, and by the index {indexed}"
-                )?;
-                return Ok(told);
+        for _ in 0..MANY {
+            let Some(text) = texts.pop() else {
+                return Ok(format!(in self.alloc; "{count} lines")?);
+            };
+            if !choose(self.alloc, text.as_str(), &mut texts)? {
+                let found = self.ask(text.as_str())?;
+                if found.starts_with(DIFFERS) {
+                    return Ok(format!(in self.alloc; "at {text}: {found}")?);
+                }
+                let lines = found.lines().filter(|line| *line != "none").count();
+                count = count.saturating_add(lines);
             }
-            count = count.saturating_add(count_lines(found.as_str()));
         }
-        Ok(format!(in self.alloc; "{count} lines")?)
+        Err(NoAnswer::NoQuestion)
     }
 
     /// How many reads a question makes, each of which fails once in each way.
     pub(crate) fn ask_failing(&self, text: &str) -> Answer {
-        let made = self.made.as_ref().ok_or(NoAnswer::NoQuestion)?;
-        let (pin, text) = first_word(text)?;
-        let (text, prefix) = split_prefix(text)?;
-        let request = Request {
-            question: read_question(self.alloc, text)?,
-            pin: number(pin)?,
-        };
-        match rows_found(self.alloc, made, &mut made.reader(), request, prefix) {
-            Ok(rows) => fail_each_read(self.alloc, made, request, prefix, rows.len() as u64),
-            Err(_) => Err(NoAnswer::NoQuestion),
-        }
+        Request::of(self.alloc, text)?.fail_each_read(self.index()?)
     }
 
     /// Makes an index of lists.
     pub(crate) fn list(&mut self, word: &str, rest: &str) -> Answer {
         let lists = match word {
-            "lists" => lists_of(self.alloc, &self.rows, rest)?,
             "spread" => spread(self.alloc, &self.rows, number(rest)?)?,
-            _ => by_date(self.alloc, &self.rows, rest)?,
+            _ => lists_of(self.alloc, &self.rows, rest)?,
         };
         let count = lists.len();
         self.made = Some(Indexed::new(self.alloc, lists)?);
-        self.is_alone = false;
         Ok(format!(in self.alloc; "{count} lists")?)
     }
 
-    /// Changes the index, or the postings or rows besides it.
+    /// Changes the index, or the postings or rows besides it, and prints how many lists there are
+    /// of what is changed.
     pub(crate) fn change(&mut self, word: &str, rest: &str) -> Answer {
-        let Some(made) = &mut self.made else {
-            return Err(NoAnswer::NoQuestion);
+        let (alloc, rows) = (self.alloc, self.rows.as_slice());
+        let made = self.made.as_mut().ok_or(NoAnswer::NoQuestion)?;
+        match word {
+            "read" => made.lists = lists_of(alloc, rows, rest)?,
+            "put" | "put-links" | "put-list" => made.put(alloc, word, rows, rest)?,
+            "posted" => {
+                let front = made.lists.get(..number(rest)?).ok_or(NoAnswer::NoQuestion)?;
+                made.posted = PostedLists::of(alloc, front)?;
+            }
+            "post" => made.posted = PostedLists::of(alloc, &lists_of(alloc, rows, rest)?)?,
+            "link" => made.link(alloc, rest)?,
+            "cut" => made.cut_terms(alloc, number(rest)?)?,
+            _ => made.merge(alloc, rows, rest)?,
+        }
+        let count = match word {
+            "read" => made.lists.len(),
+            "put" => made.index.lists(),
+            _ => made.posted.links.lists(),
         };
-        let count = change_index(self.alloc, &self.rows, made, word, rest)?;
-        self.is_alone = match word {
-            "merge" | "put-list" => false,
-            "link" => rest != "twice",
-            _ => true,
-        };
-        Ok(format!(in self.alloc; "{count} lists")?)
-    }
-
-    /// The places of two lists, taken in two steps.
-    pub(crate) fn taken(&self, counts: &str) -> Answer {
-        let made = self.made.as_ref().ok_or(NoAnswer::NoQuestion)?;
-        take_in_turns(self.alloc, &made.lists, counts)
+        made.is_alone = !matches!((word, rest), ("merge" | "put-list", _) | ("link", "twice"));
+        Ok(format!(in alloc; "{count} lists")?)
     }
 
     /// Makes hints.
@@ -247,44 +168,37 @@ impl CaseState {
     /// The place of a component's row, found with hints for `hinted`.
     pub(crate) fn place(&mut self, word: &str, words: &str) -> Answer {
         let made = self.made.as_ref().ok_or(NoAnswer::NoQuestion)?;
-        let (pin, words) = first_word(words)?;
-        let (kind, words) = first_word(words)?;
-        let (id, date) = first_word(words)?;
-        let (kind, id, date, pin) = (kind_of(kind)?, number(id)?, day_of(date)?, number(pin)?);
-        let as_of = AsOf { date, pin };
+        let (kind, id, as_of) = component_at(words)?;
         let found = match (word, &mut self.hints) {
             ("hinted", Some(hints)) => made.index.place_from_hints(hints, kind, id, as_of),
             ("place", _) => made.index.place_at(kind, id, as_of),
             _ => return Err(NoAnswer::NoQuestion),
         };
-        match found {
-            Some((list, place)) => {
-                let day = place.key.time.value();
-                Ok(format!(in self.alloc; "list {list}, {day}")?)
-            }
-            None => Ok(String::from_str(self.alloc, "none")?),
-        }
+        let Some((list, place)) = found else {
+            return Ok(String::from_str(self.alloc, "none")?);
+        };
+        let day = place.key.time.value();
+        Ok(format!(in self.alloc; "list {list}, {day}")?)
     }
 
     /// The row with this number of a list, and its day if it is current.
     pub(crate) fn row(&self, words: &str) -> Answer {
-        let made = self.made.as_ref().ok_or(NoAnswer::NoQuestion)?;
+        let made = self.index()?;
         let (list, words) = first_word(words)?;
         let (row, words) = first_word(words)?;
         let (date, pin) = first_word(words)?;
         let (list, row): (usize, u32) = (number(list)?, number(row)?);
         let (date, pin) = (day_of(date)?, number(pin)?);
-        let current = made.index.current_at(list, row, AsOf { date, pin });
-        match (made.index.id_at(list, row), current) {
-            (None, None) => Ok(String::from_str(self.alloc, "none")?),
-            (Some(id), None) => Ok(format!(in self.alloc; "{id}")?),
-            (None, Some(_)) => Ok(String::from_str(self.alloc, "current, and without an id")?),
-            (Some(id), Some(place)) => {
+        let as_of = AsOf { date, pin };
+        let Some(id) = made.index.id_at(list, row) else {
+            return Ok(String::from_str(self.alloc, "none")?);
+        };
+        match made.index.current_at(list, row, as_of) {
+            None => Ok(format!(in self.alloc; "{id}")?),
+            Some(place) => {
                 let (day, own, at) = (place.key.time.value(), place.key.id, place.at);
-                if id != own {
-                    return Ok(format!(in self.alloc; "{id}, and current {own}")?);
-                }
-                Ok(format!(in self.alloc; "{id} of {day} at {at}")?)
+                let is_own = if own == id { "" } else { "not its own, " };
+                Ok(format!(in self.alloc; "{is_own}{own} of {day} at {at}")?)
             }
         }
     }

@@ -15,7 +15,7 @@
 //! Once there is an index of lists, it answers these questions too: see `asking`, and `limits`.
 
 use crate::indexed::Indexed;
-use crate::numbered::Each;
+use crate::numbered::numbered;
 use as_of_index::Hints;
 use case_files::{Answer, Answers, NoAnswer};
 use case_values::{day_of, first_word, kind_of, number, read_row, row_bytes, row_text};
@@ -24,23 +24,15 @@ use rf2_values::{Kind, Row};
 use std::alloc::Global;
 use std::mem::size_of;
 
-/// A row of a release.
-#[derive(Drop)]
-struct Given {
-    release: String,
-    row: Row,
-}
-
 /// The rows of the given releases, those that a case imported, and its index.
 #[derive(Drop)]
 pub struct CaseState {
     pub(crate) alloc: Global,
-    given: Vec<Given>,
+    /// The rows of releases, each behind the name of its release.
+    given: Vec<(String, Row)>,
     imports: u16,
     pub(crate) rows: Vec<StampedRow>,
     pub(crate) made: Option<Indexed>,
-    /// Whether only the index is asked, and not the plain programs.
-    pub(crate) is_alone: bool,
     pub(crate) hints: Option<Hints>,
 }
 
@@ -53,7 +45,6 @@ impl CaseState {
             imports: 0,
             rows: Vec::new(alloc),
             made: None,
-            is_alone: false,
             hints: None,
         }
     }
@@ -61,9 +52,9 @@ impl CaseState {
     /// The rows of a release, which has to have been given.
     fn rows_of(&self, release: &str) -> Result<Vec<Row>, NoAnswer> {
         let mut rows = Vec::new(self.alloc);
-        for given in &self.given {
-            if given.release.as_str() == release {
-                rows.push(given.row.try_clone(self.alloc)?)?;
+        for (name, row) in &self.given {
+            if name.as_str() == release {
+                rows.push(row.try_clone(self.alloc)?)?;
             }
         }
         if rows.is_empty() {
@@ -80,13 +71,25 @@ impl CaseState {
         read_row(self.alloc, kind, row_text(self.alloc, text)?.as_bytes())
     }
 
+    /// Adds a row of a release.
+    fn give_row(&mut self, part: &str, kind: Kind, text: &str) -> Result<(), NoAnswer> {
+        let row = self.row_of(kind, text)?;
+        self.given.push((String::from_str(self.alloc, part)?, row))?;
+        Ok(())
+    }
+
     /// Adds the rows of a release that differ in a number.
-    fn give_each(&mut self, part: &str, each: Each<'_>) -> Result<(), NoAnswer> {
-        for place in each.first..=each.last {
-            if each.has(place) {
-                let row = self.row_of(each.kind, each.line(self.alloc, place)?.as_str())?;
-                let release = String::from_str(self.alloc, part)?;
-                self.given.push(Given { release, row })?;
+    fn give_each(&mut self, part: &str, words: &str) -> Result<(), NoAnswer> {
+        let (numbers, words) = first_word(words)?;
+        let (first, rest) = numbers.split_once('-').ok_or(NoAnswer::NoQuestion)?;
+        let (last, step) = rest.split_once('+').ok_or(NoAnswer::NoQuestion)?;
+        let (first, last, step): (u32, u32, u32) = (number(first)?, number(last)?, number(step)?);
+        let (kind, line) = first_word(words)?;
+        let kind = kind_of(kind)?;
+        for own in first..=last {
+            if own.saturating_sub(first).checked_rem(step) == Some(0) {
+                let line = numbered(self.alloc, line, kind, own)?;
+                self.give_row(part, kind, line.as_str())?;
             }
         }
         Ok(())
@@ -114,13 +117,11 @@ impl CaseState {
             return Ok(String::from_str(self.alloc, "none")?);
         };
         let new = receipt.new;
-        match receipt.latest {
-            Some(day) => {
-                let day = day.value();
-                Ok(format!(in self.alloc; "{new} new, the latest of {day}")?)
-            }
-            None => Ok(format!(in self.alloc; "{new} new")?),
-        }
+        let Some(latest) = receipt.latest else {
+            return Ok(format!(in self.alloc; "{new} new")?);
+        };
+        let day = latest.value();
+        Ok(format!(in self.alloc; "{new} new, the latest of {day}")?)
     }
 
     /// How many ghost rows there are of a release, and how many after they are cut.
@@ -143,12 +144,6 @@ impl CaseState {
         let count = plain_history::snapshot(self.alloc, &shown, day_of(date)?)?.len();
         Ok(format!(in self.alloc; "{count} rows")?)
     }
-
-    /// How many bytes ghost rows take.
-    fn shown_bytes(&self) -> Answer {
-        let bytes = size_of::<GhostRows>();
-        Ok(format!(in self.alloc; "{bytes}")?)
-    }
 }
 
 impl Answers for CaseState {
@@ -156,18 +151,14 @@ impl Answers for CaseState {
         self.imports = 0;
         self.rows.clear();
         self.made = None;
-        self.is_alone = false;
         self.hints = None;
     }
 
     fn give(&mut self, part: &str, word: &str, rest: &str) -> Result<(), NoAnswer> {
-        if word == "each" {
-            return self.give_each(part, Each::of(rest)?);
+        match word {
+            "each" => self.give_each(part, rest),
+            _ => self.give_row(part, kind_of(word)?, rest),
         }
-        let row = self.row_of(kind_of(word)?, rest)?;
-        let release = String::from_str(self.alloc, part)?;
-        self.given.push(Given { release, row })?;
-        Ok(())
     }
 
     fn answer(&mut self, word: &str, rest: &str) -> Answer {
@@ -176,8 +167,8 @@ impl Answers for CaseState {
             "receipt" => self.receipt(rest),
             "snapshot" => self.snapshot(rest),
             "shown" => self.shown(rest),
-            "shown_bytes" => self.shown_bytes(),
-            "at" => self.ask_at(rest),
+            "shown_bytes" => Ok(format!(in self.alloc; "{}", size_of::<GhostRows>())?),
+            "at" => self.ask(rest),
             "all" => self.ask_all(rest),
             "fails" => self.ask_failing(rest),
             "lists" | "spread" | "dates" => self.list(word, rest),

@@ -4,15 +4,14 @@
 
 mod asking;
 mod case_state;
-mod expanded;
-mod failing;
 mod index_questions;
 mod indexed;
 mod limits;
+mod listed;
 mod numbered;
 mod plain_questions;
-mod spelled;
-mod turns;
+mod posted;
+mod told;
 mod watched;
 
 use case_state::CaseState;

@@ -1,85 +1,67 @@
 //! The answers of the plain programs, about the rows that a pin shows.
 
-use crate::spelled::{spell_dates, spell_ids, spell_row, spell_rows};
-use case_files::{Answer, NoAnswer};
+use crate::told::{Request, told};
+use case_files::Answer;
 use case_values::Question;
-use rf2_values::{EffectiveTime, Kind, Row, Sctid};
-use std::alloc::Global;
+use plain_history::{
+    about, ancestors, called, children, dates, delta, descendants, get, members, page,
+    replacements, replaces, rows_of_kind, search_terms, sources, terms, timeline, values, versions,
+    words_found,
+};
+use rf2_values::Row;
+use std::alloc::AllocError;
 
-/// The component's row at a date.
-fn get(alloc: Global, shown: &[Row], kind: Kind, id: u128, date: EffectiveTime) -> Answer {
-    spell_row(alloc, plain_history::get(shown, kind, id, date))
-}
-
-/// Concepts.
-fn spell_concepts(alloc: Global, concepts: &[Sctid]) -> Answer {
-    let mut ids = Vec::new(alloc);
-    for concept in concepts {
-        ids.push(concept.value())?;
+impl Request {
+    /// The rows that are found, if the question asks for rows.
+    fn find_shown<'a>(&self, shown: &'a [Row]) -> Result<Vec<&'a Row>, AllocError> {
+        let (alloc, prefix) = (self.alloc, self.prefix.as_str());
+        match self.question {
+            Question::Get(kind, id, date) => get(shown, kind, id, date).into_iter().collect(alloc),
+            Question::Versions(kind, id) => versions(alloc, shown, kind, id),
+            Question::Replacements(id, date) => replacements(alloc, shown, id, date),
+            Question::Replaces(id, date) => replaces(alloc, shown, id, date),
+            Question::About(kind, id, date) => about(alloc, shown, kind, id, date),
+            Question::Timeline(kind, id) => timeline(alloc, shown, kind, id),
+            Question::Page(kind, date, after, limit) => page(
+                alloc, shown, kind, date, after, limit,
+            ),
+            Question::Delta(kind, from, date, after, limit) => {
+                delta(alloc, shown, kind, from, date, after, limit)
+            }
+            Question::Members(refset, date, after, limit) => {
+                members(alloc, shown, refset, date, after, limit)
+            }
+            Question::Values(refset, date, after, limit) => {
+                values(alloc, shown, refset, date, after, limit)
+            }
+            Question::Called(id, date, refset) => called(alloc, shown, id, date, refset),
+            Question::Terms(date, limit) => terms(alloc, shown, prefix, date, limit),
+            Question::Search(date, after, limit) => {
+                search_terms(alloc, shown, prefix, date, after, limit)
+            }
+            Question::Words(date, wanted_type, offset, limit) => {
+                words_found(alloc, shown, date, wanted_type, offset, limit, prefix)
+            }
+            Question::AllRows(kind, after, limit) => rows_of_kind(alloc, shown, kind, after, limit),
+            _ => Ok(Vec::new(alloc)),
+        }
     }
-    spell_ids(alloc, &ids)
-}
 
-/// The rows that are found, if the question asks for rows.
-fn find<'a>(
-    alloc: Global,
-    shown: &'a [Row],
-    question: Question,
-    prefix: &str,
-) -> Result<Vec<&'a Row>, NoAnswer> {
-    Ok(match question {
-        Question::Versions(kind, id) => plain_history::versions(alloc, shown, kind, id)?,
-        Question::Replacements(id, date) => plain_history::replacements(alloc, shown, id, date)?,
-        Question::Replaces(id, date) => plain_history::replaces(alloc, shown, id, date)?,
-        Question::About(kind, id, date) => plain_history::about(alloc, shown, kind, id, date)?,
-        Question::Timeline(kind, id) => plain_history::timeline(alloc, shown, kind, id)?,
-        Question::Page(kind, date, after, limit) => {
-            plain_history::page(alloc, shown, kind, date, after, limit)?
+    /// The answer of the plain programs.
+    pub fn ask_plainly(&self, shown: &[Row]) -> Answer {
+        let alloc = self.alloc;
+        match self.question {
+            Question::Children(id, date) => told(alloc, children(alloc, shown, id, date)),
+            Question::Descendants(id, date) => told(alloc, descendants(alloc, shown, id, date)),
+            Question::Ancestors(id, date) => told(alloc, ancestors(alloc, shown, id, date)),
+            Question::Sources(type_id, id, date, after, limit) => {
+                told(
+                    alloc,
+                    sources(alloc, shown, type_id, id, date, after, limit),
+                )
+            }
+            Question::Dates => told(alloc, dates(alloc, shown)),
+            _ => told(alloc, self.find_shown(shown)),
         }
-        Question::Delta(kind, from, date, after, limit) => {
-            plain_history::delta(alloc, shown, kind, from, date, after, limit)?
-        }
-        Question::Members(refset, date, after, limit) => {
-            plain_history::members(alloc, shown, refset, date, after, limit)?
-        }
-        Question::Values(refset, date, after, limit) => {
-            plain_history::values(alloc, shown, refset, date, after, limit)?
-        }
-        Question::Called(id, date, refset) => {
-            plain_history::called(alloc, shown, id, date, refset)?
-        }
-        Question::Terms(date, limit) => plain_history::terms(alloc, shown, prefix, date, limit)?,
-        Question::Search(date, after, limit) => {
-            plain_history::search_terms(alloc, shown, prefix, date, after, limit)?
-        }
-        Question::Words(date, wanted_type, offset, limit) => {
-            plain_history::words_found(alloc, shown, date, wanted_type, offset, limit, prefix)?
-        }
-        Question::AllRows(kind, after, limit) => {
-            plain_history::rows_of_kind(alloc, shown, kind, after, limit)?
-        }
-        _ => return Err(NoAnswer::NoQuestion),
-    })
-}
-
-/// The answer of the plain programs.
-pub fn ask_plainly(alloc: Global, shown: &[Row], question: Question, prefix: &str) -> Answer {
-    match question {
-        Question::Get(kind, id, date) => get(alloc, shown, kind, id, date),
-        Question::Children(id, date) => {
-            spell_concepts(alloc, &plain_history::children(alloc, shown, id, date)?)
-        }
-        Question::Descendants(id, date) => {
-            spell_concepts(alloc, &plain_history::descendants(alloc, shown, id, date)?)
-        }
-        Question::Ancestors(id, date) => {
-            spell_concepts(alloc, &plain_history::ancestors(alloc, shown, id, date)?)
-        }
-        Question::Sources(type_id, id, date, after, limit) => {
-            let found = plain_history::sources(alloc, shown, type_id, id, date, after, limit)?;
-            spell_concepts(alloc, &found)
-        }
-        Question::Dates => spell_dates(alloc, &plain_history::dates(alloc, shown)?),
-        _ => spell_rows(alloc, &find(alloc, shown, question, prefix)?),
     }
 }

@@ -3,20 +3,10 @@
 //! checksums; directories and stores; disks in files, and releases in folders.
 #![tactic(auto)]
 
-mod caches;
 mod case_state;
-mod checksums;
-mod directories;
-mod disks;
-mod file_disks;
 mod folders;
 mod listing;
-mod lists;
-mod one_disk;
-mod records;
-mod requests;
 mod rows;
-mod segment_rows;
 mod segments;
 mod slots;
 mod stores;

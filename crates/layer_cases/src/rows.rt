@@ -1,4 +1,4 @@
-//! Lines and files of releases.
+//! Lines and files of releases, and lines of the protocol.
 //!
 //! - `line SHAPE TEXT` prints the fault of a line, or `no fault`: a shape is a kind and, after a
 //!   plus sign, the number of a member's further columns;
@@ -12,20 +12,22 @@
 //!   the term of its row takes.
 //!
 //! In each text a bar stands for a TAB, and a name in capitals for an identifier.
+//!
+//! - `request TEXT` prints the session and the command of a line of the protocol, or the number and
+//!   the name of the refusal. For a question about the imports that the session sees, the question
+//!   alone is printed as the command;
+//! - `request_fits TEXT` prints the same with `yes` in place of the command.
 
-use case_files::{Answer, NoAnswer};
+use crate::segments::joined;
+use case_files::{Answer, NoAnswer, two_words, unquoted};
 use case_values::{
-    first_word, kind_of, line_of, read_row, row_bytes, shape_of, spell_id, spell_text,
+    kind_of, line_of, read_row, row_bytes, shape_of, spell_id, spell_number, spell_text,
 };
+use line_commands::{Command, Request, parse};
 use rf2_rows::{
     Body, FileFault, Key, Kind, Row, RowFault, Shape, column_names, parse_line, read_file,
 };
 use std::alloc::{AllocError, Global};
-
-/// A count.
-fn spell_count(alloc: Global, count: usize) -> Answer {
-    Ok(format!(in alloc; "{count}")?)
-}
 
 /// The fault of a line.
 fn fault_of(alloc: Global, shape: Shape, line: &[u8]) -> Answer {
@@ -39,100 +41,82 @@ fn fault_of(alloc: Global, shape: Shape, line: &[u8]) -> Answer {
 /// Reads a file: how many rows it has, or its first fault.
 fn outcome(alloc: Global, kind: Kind, bytes: &[u8]) -> Answer {
     match read_file(alloc, kind, bytes) {
-        Ok(rows) => {
-            let count = rows.len();
-            Ok(format!(in alloc; "{count} rows")?)
-        }
+        Ok(rows) => Ok(format!(in alloc; "{} rows", rows.len())?),
         Err(FileFault::Row { line, fault }) => Ok(format!(in alloc; "line {line}: {fault:?}")?),
         Err(FileFault::OutOfMemory) => Err(NoAnswer::OutOfMemory),
     }
 }
 
-/// A file of `front`, the column names and `bytes`.
-fn file_below(
-    alloc: Global,
-    kind: Kind,
-    front: &[u8],
-    bytes: &[u8],
-) -> Result<Vec<u8>, AllocError> {
-    let mut file = front.to_vec(alloc)?;
-    file.extend_from_slice(column_names(kind))?;
-    file.extend_from_slice(bytes)?;
-    Ok(file)
-}
-
 /// Reads a file that begins with the column names, with and without a byte order mark.
 fn outcome_below(alloc: Global, kind: Kind, bytes: &[u8]) -> Answer {
-    let plain = outcome(alloc, kind, file_below(alloc, kind, b"", bytes)?.as_slice())?;
-    let marked = file_below(alloc, kind, b"\xef\xbb\xbf", bytes)?;
-    let marked = outcome(alloc, kind, marked.as_slice())?;
+    let file = joined(alloc, column_names(kind), bytes)?;
+    let plain = outcome(alloc, kind, &file)?;
+    let marked = outcome(alloc, kind, &joined(alloc, b"\xef\xbb\xbf", &file)?)?;
     if plain == marked {
         return Ok(plain);
     }
     Ok(format!(in alloc; "{plain}, and with a mark {marked}")?)
 }
 
-/// Whether a copy of the row, and a row made from its columns, equal it.
+/// Whether a copy of the row, and a row made from its columns, equal it, and its key consists of
+/// its kind, its number and its day.
 fn is_copied(alloc: Global, row: &Row) -> Result<bool, AllocError> {
     let copy = row.try_clone(alloc)?;
     let body = copy.body.try_clone(alloc)?;
     let made = Row::of(row.id, row.time, row.active, row.module_id, body);
-    Ok(copy.is_same(row) && made.is_some_and(|made| made == copy))
-}
-
-/// Whether the key of a row consists of its kind, its number and its day.
-fn has_key(row: &Row) -> bool {
-    let key = Key {
-        id: row.id,
-        time: row.time,
-        kind: row.kind(),
-    };
-    row.key() == key
+    let (id, time, kind) = (row.id, row.time, row.kind());
+    Ok(
+        row.key() == Key { id, time, kind }
+            && copy.is_same(row)
+            && made.is_some_and(|made| made == copy),
+    )
 }
 
 /// Describes a row.
 fn spell_row(alloc: Global, row: &Row) -> Answer {
     if !is_copied(alloc, row)? {
-        return Ok(String::from_str(alloc, "a copy is another row")?);
+        return Ok(String::from_str(alloc, "a copy is another row, or it has another key")?);
     }
-    if !has_key(row) {
-        return Ok(String::from_str(alloc, "it has another key")?);
-    }
-    let kind = row.kind();
-    let id = spell_id(alloc, kind, row.id)?;
-    let line = line_of(alloc, row)?;
-    Ok(format!(in alloc; "{kind:?} {id}\n{line}")?)
+    let (id, line) = (spell_id(alloc, row.kind(), row.id)?, line_of(alloc, row)?);
+    Ok(format!(in alloc; "{:?} {id}\n{line}", row.kind())?)
 }
 
-/// How many bytes the term of a description takes.
-fn count_term(row: &Row) -> usize {
-    match &row.body {
-        Body::Description(columns) => columns.term.as_bytes().len(),
-        _ => 0,
+/// The request in a line of the protocol, or the refusal.
+fn spell_request(alloc: Global, line: &[u8], is_whole: bool) -> Answer {
+    match parse(line) {
+        Ok(_) if !is_whole => Ok(String::from_str(alloc, "yes")?),
+        Ok(Request { session, command }) => match command {
+            Command::Ask(question) => Ok(format!(in alloc; "{session} {question:?}")?),
+            command => Ok(format!(in alloc; "{session} {command:?}")?),
+        },
+        Err(reason) => Ok(format!(in alloc; "{} {}", reason.code(), reason.name())?),
     }
 }
 
 /// Answers a question about a line or a file.
 pub fn answer(alloc: Global, word: &str, rest: &str) -> Answer {
-    if word == "names" {
-        return spell_text(alloc, column_names(kind_of(rest)?));
+    if matches!(word, "request" | "request_fits") {
+        return spell_request(alloc, &unquoted(alloc, rest)?, word == "request");
     }
-    let (first, text) = first_word(rest)?;
-    if word == "line" {
-        let line = row_bytes(alloc, text)?;
-        return fault_of(alloc, shape_of(first)?, line.as_slice());
-    }
-    let kind = kind_of(first)?;
-    if word == "names_as" {
-        return outcome(alloc, kind_of(text)?, column_names(kind));
+    let (shape, text) = two_words(rest);
+    let shape = shape_of(shape)?;
+    let kind = shape.kind;
+    match word {
+        "names" => return spell_text(alloc, column_names(kind)),
+        "names_as" => return outcome(alloc, kind_of(text)?, column_names(kind)),
+        _ => {}
     }
     let text = row_bytes(alloc, text)?;
     match word {
-        "line_bytes" => spell_count(alloc, text.len()),
-        "term_bytes" => spell_count(alloc, count_term(&read_row(alloc, kind, text.as_slice())?)),
-        "file" => outcome(alloc, kind, text.as_slice()),
-        "file_of" => outcome_below(alloc, kind, text.as_slice()),
-        "row" => spell_row(alloc, &read_row(alloc, kind, text.as_slice())?),
+        "line" => fault_of(alloc, shape, &text),
+        "line_bytes" => spell_number(alloc, text.len() as u64),
+        "term_bytes" => match &read_row(alloc, kind, &text)?.body {
+            Body::Description(columns) => spell_number(alloc, columns.term.as_bytes().len() as u64),
+            _ => Err(NoAnswer::NoQuestion),
+        },
+        "file" => outcome(alloc, kind, &text),
+        "file_of" => outcome_below(alloc, kind, &text),
+        "row" => spell_row(alloc, &read_row(alloc, kind, &text)?),
         _ => Err(NoAnswer::NoQuestion),
     }
 }

@@ -1,62 +1,99 @@
-//! The store of a case, which is new at its first question, and the function that answers each
-//! question.
+//! The state of a case, and the tables of the questions by their first words.
 //!
 //! A question that begins with a number is a line of the protocol, such as `0 IMPORT r1`, which the
-//! store's server answers; `test_support::Releases` has the releases that it names. `holds PART`
-//! prints whether the store has exactly those rows of a part that its imports bring (`held.rt`), and
-//! `complete` imports the samples that it lacks.
+//! store's server answers; `test_support::Releases` has the releases that it names. `complete`
+//! imports the samples that the store lacks, `new` begins with a new store of layout 2, as a case
+//! itself does, and `new-in-three` with one of layout 3.
 
-use crate::calls::{call, is_refused, store_of};
-use crate::contradicting::ask_contradictions;
-use crate::disks::{ask_disk, changed, reopens, sound_reads};
-use crate::held::Held;
-use crate::plain::{Plain, count_lookups, refuse, spell_sample};
-use crate::unspelled::count_unspelled;
-use case_files::{Answer, NoAnswer, two_words};
+use crate::calls::{all_refusals, ask_contradictions, call, done, is_refused, spell_refusal};
+use crate::copies::try_copies;
+use crate::disks::{ask_disk, ask_kept};
+use crate::named::{Named, ask_named, named_disk};
+use crate::plain::{Plain, look_up, spell_sample};
+use crate::runs::run;
+use crate::scripts::{Line, holds, known, read_line, remember};
+use crate::trials::{before_end, crashes, fails};
+use crate::unwritten::run_unwritten;
+use case_files::{Answer, Answers, NoAnswer, two_words};
 use case_values::{first_word, number, spell_text};
 use disk_model::MemDisk;
-use history_store::Layout;
+use history_store::{Layout, Refusal};
 use std::alloc::Global;
 use std::io::{Read, Write};
+use std::rt::HostRuntime;
 use test_support::{Example, Releases};
-
-/// How many rows the list of those that a store has to hold may have.
-const MOST_ROWS: usize = 1_000;
 
 /// The lines that import the samples, in the order in which cases import them.
 const SAMPLES: [&str; 3] = ["0 IMPORT r1", "0 IMPORT r2", "0 IMPORT r3"];
 
-/// How many imports, segments and rows a store has, and its layout.
-pub type Counts = (u32, u32, u64, u32);
-
-/// The releases of a file of cases, and the store of one of them.
+/// The releases and the lines of parts, and the state of a case.
 #[derive(Drop)]
-pub struct CaseState {
-    alloc: Global,
+pub struct Case<'a> {
+    rt: &'a HostRuntime,
+    pub alloc: Global,
     releases: Releases,
-    held: Held,
+    pub lines: Vec<Line>,
     plain: Plain,
+    named: Named,
     store: Option<Example>,
+    /// The bytes of the kept disk.
+    pub kept: Vec<u8>,
+    /// The remembered answers, and the replies of the last run.
+    pub remembered: Vec<String>,
+    pub last: Vec<u8>,
 }
 
-impl CaseState {
-    /// No releases.
-    pub fn new(alloc: Global) -> CaseState {
-        CaseState {
+impl<'a> Case<'a> {
+    /// With nothing that was given, and an empty kept disk.
+    pub fn new(rt: &'a HostRuntime) -> Case<'a> {
+        let alloc = rt.alloc();
+        Case {
+            rt,
             alloc,
             releases: Releases::new(alloc),
-            held: Held::new(alloc),
+            lines: Vec::new(alloc),
             plain: Plain::new(alloc),
+            named: named_disk(alloc, 0),
             store: None,
+            kept: Vec::new(alloc),
+            remembered: Vec::new(alloc),
+            last: Vec::new(alloc),
         }
     }
 
+    /// Takes a store in place of the present one, and prints `done`, or why there is none.
+    pub fn put(&mut self, made: Result<Example, (Refusal, MemDisk)>) -> Answer {
+        match made {
+            Ok(store) => {
+                self.store = Some(store);
+                done(self.alloc)
+            }
+            Err((Refusal::OutOfMemory, _)) => Err(NoAnswer::OutOfMemory),
+            Err((refusal, _)) => spell_refusal(self.alloc, refusal),
+        }
+    }
+
+    /// Begins with a new store.
+    pub fn begin_with(&mut self, layout: Layout) -> Answer {
+        let disk = MemDisk::new(self.alloc);
+        self.put(Example::create(self.alloc, disk, layout))
+    }
+
     /// The store, a new one if there is none yet.
-    fn store(&mut self) -> Result<&mut Example, NoAnswer> {
+    pub fn store(&mut self) -> Result<&mut Example, NoAnswer> {
         if self.store.is_none() {
-            self.store = Some(store_of(Example::new(self.alloc, Layout::Two))?);
+            self.begin_with(Layout::Two)?;
         }
         self.store.as_mut().ok_or(NoAnswer::NoQuestion)
+    }
+
+    /// Closes the store, and returns its disk.
+    pub fn close(&mut self) -> Result<MemDisk, NoAnswer> {
+        self.store()?;
+        match self.store.take() {
+            Some(store) => Ok(store.close()),
+            None => Err(NoAnswer::NoQuestion),
+        }
     }
 
     /// Lets the server of the store answer the lines of an input, and prints what it returns.
@@ -75,7 +112,7 @@ impl CaseState {
     }
 
     /// The reply to a line of the protocol.
-    fn reply(&mut self, line: &str) -> Answer {
+    pub fn reply(&mut self, line: &str) -> Answer {
         self.store()?;
         let Some(store) = &mut self.store else {
             return Err(NoAnswer::NoQuestion);
@@ -84,30 +121,6 @@ impl CaseState {
             Ok(reply) => spell_text(self.alloc, reply.strip_suffix(b"\n").unwrap_or(&reply)),
             Err(_) => Err(NoAnswer::OutOfMemory),
         }
-    }
-
-    /// Whether a pin shows exactly the rows of a part that the first imports bring.
-    fn shows(&mut self, part: &str, pin: u32) -> Result<bool, NoAnswer> {
-        for place in 0..MOST_ROWS {
-            let Some((question, reply)) = self.held.question(part, place, pin)? else {
-                return Ok(true);
-            };
-            if self.reply(&question)? != reply {
-                return Ok(false);
-            }
-        }
-        Ok(false)
-    }
-
-    /// Whether the store has exactly the rows of a part that its imports bring.
-    fn holds(&mut self, part: &str) -> Answer {
-        let store = self.store()?;
-        let (imports, rows) = (store.imports(), store.row_count());
-        let mut is_so = rows == self.held.count(part, imports)?;
-        for pin in 0..=imports {
-            is_so = is_so && self.shows(part, pin)?;
-        }
-        Ok(String::from_str(self.alloc, if is_so { "yes" } else { "no" })?)
     }
 
     /// Imports the samples that the store lacks.
@@ -119,87 +132,7 @@ impl CaseState {
                 return Ok(reply);
             }
         }
-        Ok(String::from_str(self.alloc, "done")?)
-    }
-
-    /// The contradictions of a release, of which a limited number is listed.
-    fn contradictions(&mut self, words: &str) -> Answer {
-        let (limit, words) = first_word(words)?;
-        let release = self.releases.find(words)?;
-        ask_contradictions(self.alloc, self.store()?, number(limit)?, release)
-    }
-
-    /// Replaces the present store.
-    pub fn put(&mut self, store: Example) {
-        self.store = Some(store);
-    }
-
-    /// The counts of the store, if there is one.
-    pub fn counts(&self) -> Option<Counts> {
-        let store = self.store.as_ref()?;
-        let counts = (store.imports(), store.segments());
-        Some((counts.0, counts.1, store.row_count(), store.layout_number()))
-    }
-
-    /// The number of the store's layout; 0 without a store.
-    pub fn layout_number(&self) -> u32 {
-        match &self.store {
-            Some(store) => store.layout_number(),
-            None => 0,
-        }
-    }
-
-    /// Closes the store, and returns its disk.
-    pub fn close(&mut self) -> Result<MemDisk, NoAnswer> {
-        self.store()?;
-        match self.store.take() {
-            Some(store) => Ok(store.close()),
-            None => Err(NoAnswer::NoQuestion),
-        }
-    }
-
-    /// Closes the store, answers a question about its disk, and opens it again.
-    fn reopen(&mut self, word: &str, words: &str) -> Answer {
-        let disk = self.close()?;
-        let answer = ask_disk(self.alloc, &disk, word, words)?;
-        let disk = changed(self.alloc, disk, word, words)?;
-        let reads = sound_reads(word, words)?;
-        self.store = Some(store_of(Example::open_spoiled(self.alloc, disk, reads))?);
-        Ok(answer)
-    }
-
-    /// Drops the store, and the rows that are known without one.
-    pub fn begin(&mut self) {
-        self.store = None;
-        self.plain.begin();
-    }
-
-    /// Answers a question about a release without a store.
-    fn ask_plain(&mut self, word: &str, words: &str) -> Answer {
-        match word {
-            "fresh" => {
-                let release = self.releases.find(words)?;
-                self.plain.fresh(release)
-            }
-            "order" => {
-                let release = self.releases.find(words)?;
-                self.plain.order(release)
-            }
-            "lost" => {
-                let (fault, words) = first_word(words)?;
-                refuse(self.alloc, fault, self.releases.find(words)?)
-            }
-            "lookups" => count_lookups(self.alloc, self.releases.find(words)?),
-            _ => spell_sample(self.alloc, words),
-        }
-    }
-
-    /// Adds a line of a release, or a row that the store has to hold.
-    pub fn give(&mut self, part: &str, word: &str, rest: &str) -> Result<(), NoAnswer> {
-        match word {
-            "row" => self.held.give(part, rest),
-            _ => self.releases.give(part, word, rest),
-        }
+        done(self.alloc)
     }
 
     /// Answers the question on a line.
@@ -208,29 +141,84 @@ impl CaseState {
         self.ask(word, rest)
     }
 
-    /// Answers a question, given by its first word and the words after that.
+    /// Answers a question about the store, given by its first word and the words after that.
     pub fn ask(&mut self, word: &str, rest: &str) -> Answer {
-        let alloc = self.alloc;
         match word {
-            "contradictions" => self.contradictions(rest),
-            "fresh" | "order" | "lost" | "lookups" | "sample" => self.ask_plain(word, rest),
-            "holds" => self.holds(rest),
+            "contradictions" => {
+                let (limit, words) = first_word(rest)?;
+                let release = self.releases.find(words)?;
+                ask_contradictions(self.alloc, self.store()?, number(limit)?, release)
+            }
+            "holds" => holds(self, rest),
             "complete" => self.complete(),
-            "unspelled" => count_unspelled(alloc, self.store()?, rest),
-            "new" => {
-                self.store = None;
-                Ok(String::from_str(alloc, "done")?)
-            }
-            "new-in-three" => {
-                self.store = Some(store_of(Example::new(alloc, Layout::Three))?);
-                Ok(String::from_str(alloc, "done")?)
-            }
+            "new" => self.begin_with(Layout::Two),
+            "new-in-three" => self.begin_with(Layout::Three),
+            "open"
+            | "length"
+            | "slot"
+            | "bytes"
+            | "turned"
+            | "patch"
+            | "break"
+            | "torn"
+            | "changes"
+            | "crash"
+            | "spoil"
+            | "keep"
+            | "same" => ask_disk(self, word, rest),
             _ if word.parse::<u16>().is_ok() => {
-                let line = format!(in alloc; "{word} {rest}")?;
+                let line = format!(in self.alloc; "{word} {rest}")?;
                 self.reply(&line)
             }
-            _ if reopens(word) => self.reopen(word, rest),
-            _ => call(alloc, self.store()?, word, rest),
+            _ => call(self.alloc, self.store()?, word, rest),
+        }
+    }
+}
+
+impl Answers for Case<'_> {
+    fn begin(&mut self) {
+        self.plain = Plain::new(self.alloc);
+        self.named = named_disk(self.alloc, 0);
+        self.store = None;
+        self.kept.clear();
+        self.remembered.clear();
+        self.last.clear();
+    }
+
+    fn give(&mut self, part: &str, word: &str, rest: &str) -> Result<(), NoAnswer> {
+        match word {
+            "call" | "at" | "bytes" | "later" | "row" => {
+                self.lines.push(read_line(self.alloc, part, word, rest)?)?;
+                Ok(())
+            }
+            _ => self.releases.give(part, word, rest),
+        }
+    }
+
+    fn answer(&mut self, word: &str, rest: &str) -> Answer {
+        match word {
+            "crashes" => crashes(self, rest),
+            "fails" => fails(self, rest),
+            "before-end" => before_end(self, rest),
+            "run" | "way" | "noted-way" => run(self, word, rest),
+            "named" => ask_named(self.alloc, &mut self.named, rest),
+            "unwritten" => run_unwritten(self.rt, rest),
+            "refusals" => all_refusals(self.alloc),
+            "remember" => remember(self, rest),
+            "known" => known(self, rest),
+            "sample" => spell_sample(self.alloc, rest),
+            "fresh" => self.plain.fresh(self.releases.find(rest)?),
+            "order" => self.plain.order(self.releases.find(rest)?),
+            "lookups" => look_up(self.alloc, "none", self.releases.find(rest)?),
+            "lost" => {
+                let (fault, rest) = first_word(rest)?;
+                look_up(self.alloc, fault, self.releases.find(rest)?)
+            }
+            "disk" | "put" | "store" | "create" | "cut" | "with" | "byte" => {
+                ask_kept(self, word, rest)
+            }
+            _ if word.starts_with("copy") => try_copies(self, word, rest),
+            _ => self.ask(word, rest),
         }
     }
 }

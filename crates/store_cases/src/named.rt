@@ -2,11 +2,12 @@
 //!
 //! `named to BYTES` begins with an empty disk, to which its name refers as long as the disk has at
 //! most so many bytes. `named missed` prints whether a write was refused since the name refers to
-//! something else, and `named bytes FROM TO` bytes of the disk. All others, as `named write ..`, are
-//! calls on the disk, as `case_values::call_disk` makes them.
+//! something else, and `named bytes FROM TO` bytes of the disk. All others, as `named write ..`,
+//! are calls on the disk, as `case_values::call_disk` makes them.
 
+use crate::calls::done;
 use case_files::{Answer, two_words};
-use case_values::{call_disk, number, spell_part};
+use case_values::{call_disk, number, spell_part, spell_yes};
 use command_line::{Name, NamedDisk};
 use disk_model::MemDisk;
 use std::alloc::Global;
@@ -14,7 +15,7 @@ use std::io;
 
 /// A name that refers to its disk as long as the disk has at most this many bytes.
 #[derive(Clone, Copy)]
-struct Sign {
+pub struct Sign {
     bytes: u64,
 }
 
@@ -34,41 +35,24 @@ impl Name for Sign {
     }
 }
 
+/// The disk of a case, and its name.
+pub type Named = NamedDisk<MemDisk, Sign>;
+
 /// An empty disk with such a name.
-fn named_disk(alloc: Global, bytes: u64) -> NamedDisk<MemDisk, Sign> {
+pub fn named_disk(alloc: Global, bytes: u64) -> Named {
     NamedDisk::new(MemDisk::new(alloc), Sign { bytes }, 0)
 }
 
-/// The disk of a case.
-#[derive(Drop)]
-pub struct Named {
-    alloc: Global,
-    disk: NamedDisk<MemDisk, Sign>,
-}
-
-impl Named {
-    /// With an empty disk, to which its name refers as long as it is empty.
-    pub fn new(alloc: Global) -> Named {
-        Named {
-            alloc,
-            disk: named_disk(alloc, 0),
+/// Answers a question about the disk.
+pub fn ask_named(alloc: Global, disk: &mut Named, words: &str) -> Answer {
+    let (word, rest) = two_words(words);
+    match word {
+        "to" => {
+            *disk = named_disk(alloc, number(rest)?);
+            done(alloc)
         }
-    }
-
-    /// Answers a question about the disk.
-    pub fn answer(&mut self, words: &str) -> Answer {
-        let (word, rest) = two_words(words);
-        match word {
-            "to" => {
-                self.disk = named_disk(self.alloc, number(rest)?);
-                Ok(String::from_str(self.alloc, "done")?)
-            }
-            "missed" => {
-                let is_missed = self.disk.missed().is_some();
-                Ok(String::from_str(self.alloc, if is_missed { "yes" } else { "no" })?)
-            }
-            "bytes" => spell_part(self.alloc, self.disk.disk().bytes(), rest),
-            _ => call_disk(self.alloc, &mut self.disk, word, rest),
-        }
+        "missed" => spell_yes(alloc, disk.missed().is_some()),
+        "bytes" => spell_part(alloc, disk.disk().bytes(), rest),
+        _ => call_disk(alloc, disk, word, rest),
     }
 }

@@ -11,16 +11,82 @@
 //! - `sample NAME` prints the files of a sample: a line with the name and the kind, and then its
 //!   lines.
 
-use crate::lost::Lost;
-use crate::unknown::Unknown;
+ghost use Rattle.std.specs.Prelude.{[]};
+
 use case_files::{Answer, NoAnswer};
-use case_values::{line_of, spell_text};
+use case_values::{line_of, spell_number, spell_text};
+use fault_counts::ReadFault;
 use history_model::StampedRow;
-use import_check::{ImportFault, NewRows, Release, new_rows};
+use import_check::{ImportFault, Known, NewRows, Release, new_rows};
 use plain_history::KnownRows;
 use rf2_rows::{Row, read_file};
+use rf2_values::Key;
 use samples::sample;
 use std::alloc::{AllocError, Global};
+
+/// Fails with a fault wherever a row is looked up, or knows no row if there is no fault. It counts
+/// the look-ups and the faults.
+#[derive(Clone, Copy)]
+pub struct Lost {
+    fault: Option<ReadFault>,
+    pub asked: u64,
+    pub disk_faults: u64,
+    pub damages: u64,
+}
+
+impl Lost {
+    /// One that fails with the fault that a word names, which is `none` for none.
+    pub fn of(word: &str) -> Result<Lost, NoAnswer> {
+        let fault = match word {
+            "none" => None,
+            "memory" => Some(ReadFault::OutOfMemory),
+            "disk" => Some(ReadFault::DiskFault),
+            "damage" => Some(ReadFault::Damaged),
+            _ => return Err(NoAnswer::NoQuestion),
+        };
+        Ok(Lost {
+            fault,
+            asked: 0,
+            disk_faults: 0,
+            damages: 0,
+        })
+    }
+}
+
+impl Known for Lost {
+    ghost view = { λ lost. record {
+      rows = [];
+      is_honest = ⊥;
+      is_sound = ⊥;
+      may_be = λ _. ⊥;
+      work = 0;
+      disk_faults = lost.disk_faults;
+      damages = lost.damages;
+    } };
+
+    ghost cost = { λ _. 0 };
+
+    ghost stays = { λ _ _. Unit {0} };
+
+    ghost stays_still = { λ _. tt };
+
+    ghost stays_on = { λ _ _ _ _ _. tt };
+
+    ghost consistent = { λ _ never. absurd never };
+
+    fn row(&mut self, _alloc: Global, _key: &Key) -> Result<Option<Row>, ReadFault> {
+        self.asked = self.asked.saturating_add(1);
+        let Some(fault) = self.fault else {
+            return Ok(None);
+        };
+        match fault {
+            ReadFault::OutOfMemory => {}
+            ReadFault::DiskFault => self.disk_faults = self.disk_faults.saturating_add(1),
+            ReadFault::Damaged => self.damages = self.damages.saturating_add(1),
+        }
+        Err(fault)
+    }
+}
 
 /// The rows that are known, and how many releases brought them.
 #[derive(Drop)]
@@ -56,17 +122,6 @@ fn brought(ours: &[Row], after: &[StampedRow], import: u32) -> bool {
     ours.next().is_none()
 }
 
-/// How many rows are new, and how many lines aren't.
-fn spell_counts(alloc: Global, fresh: &NewRows) -> Answer {
-    let (new, repeated) = (fresh.rows.len(), fresh.repeated);
-    Ok(format!(in alloc; "{new} new, {repeated} repeated")?)
-}
-
-/// Why a release is refused.
-fn spell_fault(alloc: Global, fault: ImportFault) -> Answer {
-    Ok(format!(in alloc; "{fault}")?)
-}
-
 impl Plain {
     /// No known rows.
     pub fn new(alloc: Global) -> Plain {
@@ -75,12 +130,6 @@ impl Plain {
             imports: 0,
             rows: Vec::new(alloc),
         }
-    }
-
-    /// Drops the rows.
-    pub fn begin(&mut self) {
-        self.imports = 0;
-        self.rows.clear();
     }
 
     /// Adds the rows of lines as the plain program does, and returns whether it counts as many, and
@@ -97,39 +146,25 @@ impl Plain {
         Ok(is_same)
     }
 
-    /// The result of a release that is accepted, with these lines.
-    fn accept(&mut self, fresh: &NewRows, lines: &[Row]) -> Answer {
-        if self.add(lines, fresh)? {
-            spell_counts(self.alloc, fresh)
-        } else {
-            Ok(String::from_str(self.alloc, "the plain program brings other rows")?)
-        }
-    }
-
-    /// Whether the plain program refuses the lines, if the fault is that a row contradicts another;
-    /// or whether a line isn't a row, if that is the fault.
-    fn refuses_with(&self, fault: ImportFault, lines: Option<&[Row]>) -> bool {
-        match (fault, lines) {
-            (ImportFault::Contradiction { .. }, Some(lines)) => {
+    /// The result of a release, if the plain program accepts it or refuses it too.
+    pub fn fresh(&mut self, release: Release) -> Answer {
+        let alloc = self.alloc;
+        let lines = rows_of(alloc, &release)?;
+        let found = new_rows(alloc, release, &mut KnownRows::new(&self.rows));
+        let is_same = match (&found, &lines) {
+            (Ok(fresh), Some(lines)) => self.add(lines, fresh)?,
+            (Err(ImportFault::Contradiction { .. }), Some(lines)) => {
                 !plain_history::accepts(&self.rows, lines)
             }
-            (ImportFault::Row { .. }, None) => true,
+            (Err(ImportFault::Row { .. }), None) => true,
             _ => false,
-        }
-    }
-
-    /// The result of a release.
-    pub fn fresh(&mut self, release: Release) -> Answer {
-        let rows = rows_of(self.alloc, &release)?;
-        let found = new_rows(self.alloc, release, &mut KnownRows::new(&self.rows));
-        let lines = match &rows {
-            Some(rows) => Some(rows.as_slice()),
-            None => None,
         };
         match found {
-            Ok(fresh) => self.accept(&fresh, lines.unwrap_or_default()),
-            Err(fault) if self.refuses_with(fault, lines) => spell_fault(self.alloc, fault),
-            Err(_) => Ok(String::from_str(self.alloc, "the plain program says otherwise")?),
+            _ if !is_same => Ok(String::from_str(alloc, "the plain program says otherwise")?),
+            Ok(fresh) => {
+                Ok(format!(in alloc; "{} new, {} repeated", fresh.rows.len(), fresh.repeated)?)
+            }
+            Err(fault) => Ok(format!(in alloc; "{fault}")?),
         }
     }
 
@@ -143,35 +178,27 @@ impl Plain {
                     text.push('\n')?;
                 }
             }
-            Err(fault) => return spell_fault(self.alloc, fault),
+            Err(fault) => return Ok(format!(in self.alloc; "{fault}")?),
         }
         text.pop();
         Ok(text)
     }
 }
 
-/// Why a release is refused if known rows can't be read.
-pub fn refuse(alloc: Global, fault: &str, release: Release) -> Answer {
+/// Why a release is refused if known rows can't be read, or, where the fault is `none`, how often a
+/// row is looked up if none is known.
+pub fn look_up(alloc: Global, fault: &str, release: Release) -> Answer {
     let mut lost = Lost::of(fault)?;
     let found = new_rows(alloc, release, &mut lost);
     match found {
+        Err(ImportFault::OutOfMemory) if fault == "none" => Err(NoAnswer::OutOfMemory),
+        _ if fault == "none" => spell_number(alloc, lost.asked),
         Ok(_fresh) => Ok(String::from_str(alloc, "accepted")?),
         Err(fault) => {
-            let (disk_faults, damages) = lost.counts();
+            let (disk_faults, damages) = (lost.disk_faults, lost.damages);
             Ok(format!(in alloc; "{fault:?}, {disk_faults}, {damages}")?)
         }
     }
-}
-
-/// How often a known row is looked up if nothing is known.
-pub fn count_lookups(alloc: Global, release: Release) -> Answer {
-    let mut unknown = Unknown::new();
-    let found = new_rows(alloc, release, &mut unknown);
-    if let Err(ImportFault::OutOfMemory) = found {
-        return Err(NoAnswer::OutOfMemory);
-    }
-    let asked = unknown.asked();
-    Ok(format!(in alloc; "{asked}")?)
 }
 
 /// The files of a sample.
@@ -183,8 +210,7 @@ pub fn spell_sample(alloc: Global, name: &str) -> Answer {
     for file in &release.files {
         let lines = spell_text(alloc, &file.bytes)?;
         let (name, kind) = (&file.name, file.kind);
-        let file = format!(in alloc; "{name} {kind:?}\n{lines}")?;
-        text.push_str(file.as_str())?;
+        text.push_str(format!(in alloc; "{name} {kind:?}\n{lines}")?.as_str())?;
     }
     text.pop();
     Ok(text)

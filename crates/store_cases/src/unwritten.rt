@@ -7,29 +7,22 @@
 use case_files::Answer;
 use case_values::spell_text;
 use command_line::{FileHost, run};
-use std::alloc::{AllocError, Global};
 use std::io::{self, ErrorKind, Read, Write};
 use std::rt::HostRuntime;
 
-/// Input that can't be read.
-#[derive(Clone, Copy)]
-struct Unreadable;
+/// Input that can't be read, or output that is taken, and whose flush fails.
+#[derive(Drop)]
+struct Failing(Vec<u8>);
 
-impl Read for Unreadable {
+impl Read for Failing {
     fn read(&mut self, _buf: &mut [u8]) -> io::Result<usize> {
         Err(io::Error::from(ErrorKind::Interrupted))
     }
 }
 
-/// Output that is taken, and whose flush fails.
-#[derive(Drop)]
-struct Unwritten {
-    taken: Vec<u8>,
-}
-
-impl Write for Unwritten {
+impl Write for Failing {
     fn write(&mut self, buf: &[u8]) -> io::Result<usize> {
-        self.taken.extend_from_slice(buf)?;
+        self.0.extend_from_slice(buf)?;
         Ok(buf.len())
     }
 
@@ -38,31 +31,27 @@ impl Write for Unwritten {
     }
 }
 
-/// The words of a run.
-fn words_of(alloc: Global, word: &str) -> Result<Vec<String>, AllocError> {
-    let mut words = Vec::new(alloc);
-    words.push(String::from_str(alloc, "sctd")?)?;
-    words.push(String::from_str(alloc, word)?)?;
-    Ok(words)
-}
-
 /// Runs the program with a word.
 pub fn run_unwritten(rt: &HostRuntime, word: &str) -> Answer {
     let alloc = rt.alloc();
-    let words = words_of(alloc, word)?;
-    let taken = Vec::new(alloc);
-    let mut output = Unwritten { taken };
+    let words = [
+        String::from_str(alloc, "sctd")?,
+        String::from_str(alloc, word)?,
+    ];
+    let mut input = Failing(Vec::new(alloc));
+    let mut output = Failing(Vec::new(alloc));
     let mut faults = Vec::new(alloc);
+    let host = FileHost::new(rt);
     let (status, _, _) = run(
-        &FileHost::new(rt),
+        &host,
         &mut 0,
         alloc,
         &words,
-        &mut Unreadable,
+        &mut input,
         &mut output,
         &mut faults,
     );
     let faults = spell_text(alloc, &faults)?;
-    let taken = spell_text(alloc, &output.taken)?;
+    let taken = spell_text(alloc, &output.0)?;
     Ok(format!(in alloc; "{status}\n{faults}{}", taken.trim_end())?)
 }

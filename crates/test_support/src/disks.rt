@@ -29,23 +29,6 @@ pub fn image_before_end(disk: &MemDisk, left: u64, choice: Choice) -> Result<Vec
     }
 }
 
-/// The bytes with one byte at all offsets from the first up to the second.
-pub fn patch(
-    alloc: Global,
-    bytes: &[u8],
-    from: usize,
-    to: usize,
-    byte: u8,
-) -> Result<Vec<u8>, AllocError> {
-    let mut bytes = bytes.to_vec(alloc)?;
-    for (place, old) in bytes.iter_mut().enumerate() {
-        if from <= place && place < to {
-            *old = byte;
-        }
-    }
-    Ok(bytes)
-}
-
 /// Overwrites the bytes from an offset on.
 pub fn put(image: &mut Vec<u8>, from: usize, bytes: &[u8]) {
     for (behind, new) in bytes.iter().enumerate() {

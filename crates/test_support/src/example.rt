@@ -22,14 +22,6 @@ pub struct Example {
     store: Box<Store<Spoiled>>,
 }
 
-/// The disk, of which all reads are sound.
-fn sound(disk: MemDisk) -> Spoiled {
-    Spoiled {
-        disk,
-        sound_reads: u64::MAX,
-    }
-}
-
 /// Puts the store in a box, or returns the disk and why there is none.
 fn put_in_box(
     alloc: Global,
@@ -44,14 +36,6 @@ fn put_in_box(
     }
 }
 
-/// The store, without the disk of one that is refused.
-fn store_of(made: Result<Example, (Refusal, MemDisk)>) -> Result<Example, Refusal> {
-    match made {
-        Ok(example) => Ok(example),
-        Err((refusal, _)) => Err(refusal),
-    }
-}
-
 /// The pin, unless there are fewer imports.
 fn pin_within(store: &Store<Spoiled>, pin: u32) -> Option<u32>
     ensures { IfSome result (λ pin. pin ≤ store.now.history.imports) }
@@ -63,46 +47,32 @@ fn pin_within(store: &Store<Spoiled>, pin: u32) -> Option<u32>
 }
 
 impl Example {
-    /// A new store of this layout on an empty disk.
-    pub fn new(alloc: Global, layout: Layout) -> Result<Example, Refusal> {
-        store_of(Example::create(alloc, MemDisk::new(alloc), layout))
-    }
-
     /// Makes a new store of this layout on this disk, or returns the disk.
     pub fn create(
         alloc: Global,
         disk: MemDisk,
         layout: Layout,
     ) -> Result<Example, (Refusal, MemDisk)> {
-        put_in_box(
-            alloc,
-            Store::create(alloc, sound(disk), layout, Words::Kept),
-        )
+        let disk = Spoiled {
+            disk,
+            sound_reads: u64::MAX,
+        };
+        put_in_box(alloc, Store::create(alloc, disk, layout, Words::Kept))
     }
 
     /// Opens the store that a disk represents, or returns the disk.
     pub fn open(alloc: Global, disk: MemDisk) -> Result<Example, (Refusal, MemDisk)> {
-        put_in_box(alloc, Store::open(alloc, sound(disk), Words::Kept))
+        Example::open_spoiled(alloc, disk, u64::MAX)
     }
 
-    /// Opens the store that a disk represents.
-    pub fn opened(alloc: Global, disk: MemDisk) -> Result<Example, Refusal> {
-        store_of(Example::open(alloc, disk))
-    }
-
-    /// Opens the store that a disk represents, all reads of which but the first ones give zeros.
+    /// The same, where all reads but the first ones give zeros.
     pub fn open_spoiled(
         alloc: Global,
         disk: MemDisk,
         sound_reads: u64,
-    ) -> Result<Example, Refusal> {
+    ) -> Result<Example, (Refusal, MemDisk)> {
         let disk = Spoiled { disk, sound_reads };
-        store_of(put_in_box(alloc, Store::open(alloc, disk, Words::Kept)))
-    }
-
-    /// Opens the store that a disk of these bytes represents.
-    pub fn of_bytes(alloc: Global, bytes: &[u8]) -> Result<Example, Refusal> {
-        Example::opened(alloc, MemDisk::from_bytes(alloc, bytes.to_vec(alloc)?))
+        put_in_box(alloc, Store::open(alloc, disk, Words::Kept))
     }
 
     /// Serves the lines of an input with at most `reads` reads.

@@ -6,6 +6,6 @@ mod disks;
 mod example;
 mod releases;
 
-pub use disks::{CHOICES, image_after, image_before_end, patch, put};
+pub use disks::{CHOICES, image_after, image_before_end, put};
 pub use example::Example;
 pub use releases::Releases;
