@@ -4,10 +4,10 @@ quick.py [--only WORD]
 
 The tests, the programs of the crates and `sctd` itself are built by the kit's `rt try`
 (bench/unproved.py says how), two at a time and never more. The parts are: `sctd`, and the trials of
-it; the tests of the crates that no other crate uses, built as one crate; the tests of each other
-crate that has any; each program of the crates, whose output has to be its file `stdout`, or nothing
-where it has none; and the checks with which `.ci/run` begins. The last line is `N passed, M
-failed`, and `, K skipped` where there are any. WORD takes the parts with this text in their name.
+it; each program of the crates, whose output has to be its file `stdout`, or nothing where it has
+none; the tests of each crate that has any; and the checks with which `.ci/run` begins. The last
+line is `N passed, M failed`, and `, K skipped` where there are any. WORD takes the parts with this
+text in their name.
 """
 
 import argparse
@@ -22,19 +22,17 @@ import time
 from concurrent.futures import ThreadPoolExecutor
 from functools import partial
 from pathlib import Path
-from typing import Callable, Iterator, NamedTuple
+from typing import Callable, NamedTuple
 
 from unproved import FAST_BUILD, FAST_RUN, Builder, bytes_of, kit_folder, run_program, status_of
 
 TOP = Path(__file__).resolve().parent.parent
-sys.path.append(str(TOP / "bench" / "trials"))
+sys.path += [str(TOP / "bench" / "trials"), str(TOP / "bench" / "rattle")]
+from source import uses  # noqa: E402
 from transcripts import differences, text_of  # noqa: E402
 from try_program import SCRIPTS, Outcome, run_script, total  # noqa: E402
 
-PROGRAM = "sctd"
-
-PROGRAM_OF = "program of "
-
+PROGRAM, PROGRAM_OF = "sctd", "program of "
 # How many parts may go on at a time.
 MOST_AT_ONCE = 2
 # How long a test and a program of a crate may take.
@@ -43,6 +41,7 @@ PROGRAM_SECONDS = 120
 # How much of what a part says is printed where it fails.
 LINES_TOLD = 40
 
+TEST = re.compile(r"^ *#\[test\]", re.MULTILINE)
 # A check of the documents, as .ci/run has it: a script of bench/ and its words, and then what is
 # done where it fails.
 DOCUMENT_CHECK = re.compile(r"^python3 bench/([^|\n]+) \|\| \{", re.MULTILINE)
@@ -67,72 +66,14 @@ def last_lines(text: str) -> str:
     return "\n".join(text.rstrip("\n").split("\n")[-LINES_TOLD:])
 
 
-class Crates:
-    """The crates of a copy of this tree, as far as building needs them."""
-
-    def __init__(self, top: Path) -> None:
-        self.top = top
-        self.uses: dict[str, list[str]] = {}
-        for line in (TOP / "crates.txt").read_text(encoding="utf-8").splitlines():
-            name, colon, uses = line.partition(":")
-            if colon and not name.startswith("#"):
-                self.uses[name.split()[0]] = uses.split()
-        shutil.copy(TOP / "crates.txt", top / "crates.txt")
-        for name in self.uses:
-            for taken in TAKEN:
-                self.take(TOP / "crates" / name / taken, self.folder(name) / taken)
-
-    def take(self, path: Path, to: Path) -> None:
-        to.parent.mkdir(parents=True, exist_ok=True)
+def copy_crate(name: str, to: Path) -> None:
+    """Copies a crate, as far as building needs it."""
+    for path in (TOP / "crates" / name / taken for taken in TAKEN):
+        to.mkdir(parents=True, exist_ok=True)
         if path.is_dir():
-            shutil.copytree(path, to)
+            shutil.copytree(path, to / path.name)
         elif path.exists():
             shutil.copy(path, to)
-
-    def folder(self, name: str) -> Path:
-        return self.top / "crates" / name
-
-    def sources(self, name: str) -> Iterator[Path]:
-        yield from sorted((self.folder(name) / "src").rglob("*.rt"))
-
-    def count_tests(self, name: str) -> int:
-        texts = (path.read_text(encoding="utf-8") for path in self.sources(name))
-        return sum(len(re.findall(r"^ *#\[test\]", text, re.MULTILINE)) for text in texts)
-
-    def is_program(self, name: str) -> bool:
-        return (self.folder(name) / "src" / "main.rt").exists()
-
-
-class Together:
-    """One crate with the tests of some libraries that no crate uses, each as a module of it."""
-
-    NAME = "tests_together"
-
-    def __init__(self, crates: Crates, names: list[str]) -> None:
-        self.crates = crates
-        self.source = crates.folder(self.NAME) / "src"
-        self.source.mkdir(parents=True)
-        self.folder = crates.folder(self.NAME)
-        modules = "".join("#[cfg(test)]\nmod %s;\n" % name for name in names)
-        text = "//! The tests of some crates.\n#![tactic(auto)]\n\n" + modules
-        (self.source / "lib.rt").write_text(text, encoding="utf-8")
-        for name in names:
-            self.add(name)
-        uses = sorted({use for name in names for use in crates.uses[name]})
-        with open(crates.top / "crates.txt", "a", encoding="utf-8") as file:
-            file.write("%s: %s\n" % (self.NAME, " ".join(uses)))
-
-    def add(self, name: str) -> None:
-        """Adds a crate's sources as a module: what they call `crate` is that module then."""
-        own = self.crates.folder(name) / "src"
-        for path in self.crates.sources(name):
-            text = path.read_text(encoding="utf-8").replace("crate::", "crate::%s::" % name)
-            to = self.source / name / path.relative_to(own)
-            if path == own / "lib.rt":
-                to = self.source / (name + ".rt")
-                text = re.sub(r"^#!\[.*\]\n", "", text, flags=re.MULTILINE)
-            to.parent.mkdir(parents=True, exist_ok=True)
-            to.write_text(text, encoding="utf-8")
 
 
 class Tree:
@@ -140,9 +81,12 @@ class Tree:
 
     def __init__(self, place: Path) -> None:
         self.place, self.kit = place, kit_folder()
-        self.crates = Crates(place)
         self.program = place / PROGRAM
         self.is_built = threading.Event()
+        self.crates = {name: place / "crates" / name for name in uses()}
+        shutil.copy(TOP / "crates.txt", place)
+        for name, folder in self.crates.items():
+            copy_crate(name, folder)
 
     def builder(self, name: str, is_run: bool) -> Builder:
         folder = self.place / ("kit_of_" + name)
@@ -153,26 +97,16 @@ class Tree:
 
     def parts(self) -> list[Part]:
         """The parts in their order: what takes longest, and what others wait for, comes first."""
-        uses = self.crates.uses
-        tested = {name: self.crates.count_tests(name) for name in uses}
-        used = set().union(*uses.values())
-        joined = [n for n in uses if tested[n] and n not in used and not self.crates.is_program(n)]
-        apart = [name for name in uses if tested[name] and name not in joined]
-        count = sum(tested[name] for name in joined)
-        programs = {name: Part(PROGRAM_OF + name, partial(self.run_program, name)) for name in uses
-                    if self.crates.is_program(name)}
-        parts = [programs.pop(PROGRAM)]
-        if joined:
-            folder = Together(self.crates, joined).folder
-            name = "tests of %d crates" % len(joined)
-            parts.append(Part(name, partial(self.run_tests, folder, count)))
+        names = [name for name, folder in self.crates.items() if (folder / "src/main.rt").exists()]
+        programs = {name: Part(PROGRAM_OF + name, partial(self.run_program, name))
+                    for name in names}
         trials = [script for script in SCRIPTS if script[0] != SOAK]
+        parts = [programs.pop(PROGRAM)]
         parts += [Part("bench/" + " ".join(words), partial(self.run_trial, words), is_trial=True)
                   for words in (LONG_SOAK, *trials, *OTHER_TRIALS)]
         parts += programs.values()
-        parts += [Part("tests of " + name,
-                       partial(self.run_tests, self.crates.folder(name), tested[name]))
-                  for name in apart]
+        parts += [Part("tests of " + name, partial(self.run_tests, folder, count))
+                  for name, folder in self.crates.items() if (count := count_tests(folder))]
         text = (TOP / ".ci" / "run").read_text(encoding="utf-8")
         return parts + [Part("bench/" + words.split()[0],
                              partial(run_script, words.split(), LINES_TOLD))
@@ -203,12 +137,12 @@ class Tree:
                 self.is_built.set()
         if isinstance(built, str):
             return Outcome(0, 1, 0, "it wasn't built\n" + last_lines(built))
-        return compared(built, self.crates.folder(name))
+        return compared(built, self.crates[name])
 
     def built(self, name: str) -> Path | str:
         """The program of a crate, or what was said where it can't be built."""
         builder = self.builder(name, is_run=False)
-        done = builder.run(self.crates.folder(name), [])
+        done = builder.run(self.crates[name], [])
         is_there = builder.program.exists()
         return builder.program if is_there else text_of(done.stdout + done.stderr)
 
@@ -218,6 +152,11 @@ class Tree:
         if not self.program.exists():
             return Outcome(0, 1, 0, "%s wasn't built" % PROGRAM)
         return run_script([words[0], self.program, *words[1:]], LINES_TOLD)
+
+
+def count_tests(crate: Path) -> int:
+    texts = (path.read_text(encoding="utf-8") for path in crate.rglob("src/**/*.rt"))
+    return sum(len(TEST.findall(text)) for text in texts)
 
 
 def compared(program: Path, crate: Path) -> Outcome:

@@ -11,8 +11,8 @@ sctd none of these lines is printed, and there is nothing to compare: this is sa
 import argparse
 import re
 import sys
+from collections.abc import Iterable
 from pathlib import Path
-from typing import NamedTuple
 
 from documents import TOP
 
@@ -27,39 +27,30 @@ SAID = re.compile(r"`axioms=(\d+)`,\s+which\s+are\s+(\d+)\s+of\s+the\s+C\s+libra
                   r"\s+and\s+(\d+)\s+of\s+the\s+system's\s+calls")
 
 
-class Axioms(NamedTuple):
+def axioms(total: str, libraries: Iterable[tuple[str, str]]) -> str:
     """How many C functions are taken for granted, and how many of them are of each library."""
-
-    all: int
-    libraries: dict[str, int]
-
-    def __str__(self) -> str:
-        of = ", ".join(f"{count} of {name}" for name, count in sorted(self.libraries.items()))
-        return f"{self.all}: {of}"
+    return f"{total}: " + ", ".join(f"{count} of {name}" for name, count in sorted(libraries))
 
 
-def printed(text: str) -> Axioms | None:
-    """The axioms of the program, as `rt ci` printed them; None where it printed none."""
+def printed(text: str) -> str:
+    """The axioms of the program, as `rt ci` printed them; nothing where it printed none."""
     proof = PROOF.search(text)
     total = ALL.search(proof[1]) if proof else None
-    if not proof or not total:
-        return None
-    counts = {name: int(count) for name, count in LIBRARY.findall(proof[1])}
-    return Axioms(int(total[1]), counts)
+    return axioms(total[1], LIBRARY.findall(proof[1])) if proof and total else ""
 
 
-def said(text: str) -> Axioms | None:
-    """The axioms of the program, as PROMISES has them."""
+def said(text: str) -> str:
+    """The axioms of the program, as PROMISES has them; nothing where it has none."""
     found = SAID.search(text)
-    return Axioms(int(found[1]), {"libc": int(found[2]), "os": int(found[3])}) if found else None
+    return axioms(found[1], [("libc", found[2]), ("os", found[3])]) if found else ""
 
 
 def fault_of(output: str, document: str) -> str | None:
     """What isn't so, or None."""
     built, written = printed(output), said(document)
-    if written is None:
+    if not written:
         return f"{DOCUMENT} doesn't say how many axioms the build of {CRATE} has"
-    if built is None:
+    if not built:
         return None if KEPT.search(output) else f"the output has no axioms of {CRATE}"
     if built != written:
         return f"{DOCUMENT} has {written}, and the build of {CRATE} says {built}"

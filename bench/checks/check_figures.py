@@ -7,7 +7,7 @@ in a document without being in figures.txt is an error, but for the rows of date
 """
 
 import argparse
-import os
+import functools
 import re
 import subprocess
 import sys
@@ -15,29 +15,60 @@ from collections.abc import Iterator
 from pathlib import Path
 from typing import NamedTuple
 
-from documents import documents, name_of
+from documents import TOP, documents, name_of
 
-ROOT = os.path.dirname(os.path.dirname(os.path.dirname(os.path.abspath(__file__))))
+# Documents, and commands that print rows of tables in them: what is counted, and its numbers.
+TABLES = (("docs/internals/ARCHITECTURE.md", "python3 bench/rattle/count_reach.py"),
+          ("bench/README.md", "python3 bench/faults/always_refused.py --table"),
+          ("bench/README.md", "python3 bench/faults/gateway_faults.py --table"))
+# What the commands of figures are made of, which say why they fail to nobody.
+COMMANDS = "exec 2> /dev/null; . bench/checks/figures.sh; "
+# What has to be in figures.txt wherever it stands, and the rows that say what was so on a day.
+COUNTED = re.compile(
+    r"\b[0-9][0-9,]*\** (?:must-fail edits|edits|tests|cases in files|crates)\b(?!/)")
+DATED = re.compile(r"\| (?:20[0-9]{2}-|the same )")
 
 
 class Figure(NamedTuple):
-    """A document, a text in which {} stands for the number, and the command that prints it."""
+    """A text in a document in which {} stands for what a command prints, once it is asked."""
 
     document: str
     text: str
     command: str
 
+    def pattern(self) -> re.Pattern[str]:
+        """The text, in which a line may end, with a group for its number."""
+        front, behind = (r"\s+".join(map(re.escape, part.split(" ")))
+                         for part in self.text.split("{}"))
+        return re.compile(f"(?:{front})([0-9][0-9,]*)(?={behind})")
 
-class Table(NamedTuple):
-    """A document, and a command that prints rows of a table in it: what is counted, and its
-    numbers."""
+    def printed(self) -> str:
+        """The number that the command prints, as documents write it; nothing if it prints none."""
+        number = output_of(COMMANDS + self.command).strip()
+        return f"{int(number):,}" if number.isdigit() else ""
+
+
+class Row(NamedTuple):
+    """A row of a table in a document, as a command prints it."""
 
     document: str
+    text: str
     command: str
 
+    def pattern(self) -> re.Pattern[str]:
+        """The row that begins with the same cell."""
+        return re.compile(f"^({re.escape(self.text[: self.text.index('|', 1) + 1])}.*)$", re.M)
 
-# What the commands of figures are made of.
-COMMANDS = ". bench/checks/figures.sh; "
+    def printed(self) -> str:
+        return self.text
+
+
+@functools.cache
+def output_of(command: str) -> str:
+    """What a command prints; nothing where it fails."""
+    done = subprocess.run(["bash", "-c", command], cwd=TOP, check=False, text=True,
+                          stdout=subprocess.PIPE)
+    return "" if done.returncode else done.stdout
 
 
 def figures() -> list[Figure]:
@@ -45,104 +76,52 @@ def figures() -> list[Figure]:
     return [Figure(*line.split(" :: ")) for line in lines if not line.startswith("#")]
 
 
-FIGURES = figures()
-TABLES = [Table("docs/internals/ARCHITECTURE.md", "python3 bench/rattle/count_reach.py"),
-          Table("bench/README.md", "python3 bench/faults/always_refused.py --table"),
-          Table("bench/README.md", "python3 bench/faults/gateway_faults.py --table")]
-
-# What has to be in figures.txt wherever it stands, and the rows that say what was so on a day.
-COUNTED = re.compile(
-    r"\b[0-9][0-9,]*\** (?:must-fail edits|edits|tests|cases in files|crates)\b(?!/)")
-DATED = re.compile(r"\| (?:20[0-9]{2}-|the same )")
-
-
-def printed(command: str, known: dict[str, str | None]) -> str | None:
-    """The number that a command prints, as the documents write it; None where it prints none."""
-    if command not in known:
-        done = subprocess.run(["bash", "-c", COMMANDS + command], cwd=ROOT, check=False,
-                              stdout=subprocess.PIPE, stderr=subprocess.DEVNULL)
-        is_number = done.returncode == 0 and done.stdout.strip().isdigit()
-        known[command] = "{:,}".format(int(done.stdout)) if is_number else None
-    return known[command]
+def renewed(text: str, one: Figure | Row, wrong: list[str]) -> str:
+    """A document with a figure or a row as it is; what isn't so is added to `wrong`."""
+    found, printed = list(one.pattern().finditer(text)), one.printed()
+    if len(found) != 1:
+        wrong.append(f"{one.document}: {one.text!r} stands there {len(found)} times")
+    elif not printed:
+        wrong.append(f"{one.document}: {one.text!r}: no number is printed by: {one.command}")
+    else:
+        if found[0][1] != printed:
+            wrong.append(f"{one.document}: {found[0][0]!r}, and {printed} is printed by: "
+                         f"{one.command}")
+        text = text[: found[0].start(1)] + printed + text[found[0].end(1) :]
+    return text
 
 
-def pattern_of(figure: Figure) -> re.Pattern[str]:
-    """The text of a figure, in which a line may end, with a group for its number."""
-    front, behind = (r"\s+".join(map(re.escape, part.split(" ")))
-                     for part in figure.text.split("{}"))
-    return re.compile("(%s)([0-9][0-9,]*)(?=%s)" % (front, behind))
-
-
-def unlisted(name: str, text: str) -> Iterator[tuple[int, str]]:
-    """The counts in a document that no figure covers, each with its line's number."""
-    found = (pattern_of(figure).search(text) for figure in FIGURES if figure.document == name)
-    spans = [match.span(2) for match in found if match]
+def unlisted(name: str, text: str) -> Iterator[str]:
+    """The counts in a document that no figure covers, each with its place."""
+    found = (it.pattern().search(text) for it in figures() if it.document == name)
+    spans = [match.span(1) for match in found if match]
     for match in COUNTED.finditer(text):
         start = text.rfind("\n", 0, match.start()) + 1
         covered = any(first <= match.start() < last for first, last in spans)
         if not covered and not DATED.match(text, start):
-            yield text.count("\n", 0, match.start()) + 1, match.group()
-
-
-def checked(name: str, text: str, known: dict[str, str | None], wrong: list[str]) -> str:
-    """The document with its figures as they are; what isn't so is added to `wrong`."""
-    for figure in FIGURES:
-        if figure.document != name:
-            continue
-        found = list(pattern_of(figure).finditer(text))
-        if len(found) != 1:
-            wrong.append("%s: %r stands there %d times" % (name, figure.text, len(found)))
-            continue
-        number = printed(figure.command, known)
-        if number is None:
-            wrong.append("%s: %r: no number is printed by: %s"
-                         % (name, figure.text, figure.command))
-            continue
-        first, last = found[0].span(2)
-        if text[first:last] != number:
-            wrong.append("%s: %r, and %s is printed by: %s"
-                         % (name, found[0].group(), number, figure.command))
-        text = text[:first] + number + text[last:]
-    for line, count in unlisted(name, text):
-        wrong.append("%s:%d: %r has no command" % (name, line, count))
-    return text
-
-
-def checked_table(table: Table, text: str, wrong: list[str]) -> str:
-    """The document with the rows of a table as they are; what isn't so is added to `wrong`."""
-    done = subprocess.run(["bash", "-c", table.command], cwd=ROOT, stdout=subprocess.PIPE,
-                          check=False, text=True)
-    rows = done.stdout.splitlines()
-    if done.returncode or not rows:
-        wrong.append("%s: no rows are printed by: %s" % table)
-    for row in rows:
-        front = row[: row.index("|", 1) + 1]
-        found = re.findall("^%s.*$" % re.escape(front), text, re.M)
-        if found != [row]:
-            wrong.append("%s: %r stands there, and %r is printed by: %s"
-                         % (table.document, found, row, table.command))
-        text = re.sub("^%s.*$" % re.escape(front), lambda match: row, text, flags=re.M)
-    return text
+            line = text.count("\n", 0, match.start()) + 1
+            yield f"{name}:{line}: {match[0]!r} has no command"
 
 
 def main() -> int:
     parser = argparse.ArgumentParser(description=(__doc__ or "").split("\n", maxsplit=1)[0])
     parser.add_argument("--renew", action="store_true", help="write them into the documents")
     asked = parser.parse_args()
-    known: dict[str, str | None] = {}
-    wrong: list[str] = []
-    for name in map(name_of, documents()):
-        path = os.path.join(ROOT, name)
+    listed: list[Figure | Row] = [*figures()]
+    listed += (Row(name, row, command) for name, command in TABLES
+               for row in output_of(command).splitlines())
+    wrong = [f"{name}: no rows are printed by: {command}" for name, command in TABLES
+             if not output_of(command)]
+    for path in documents():
         with open(path, encoding="utf-8", newline="") as file:
-            text = file.read()
-        renewed = checked(name, text, known, wrong)
-        for table in TABLES:
-            if table.document == name:
-                renewed = checked_table(table, renewed, wrong)
-        if asked.renew and renewed != text:
+            before = text = file.read()
+        for one in listed:
+            text = renewed(text, one, wrong) if one.document == name_of(path) else text
+        wrong += unlisted(name_of(path), text)
+        if asked.renew and text != before:
             with open(path, "w", encoding="utf-8", newline="") as file:
-                file.write(renewed)
-    print(*wrong, "%d figures and %d tables, %d not so" % (len(FIGURES), len(TABLES), len(wrong)),
+                file.write(text)
+    print(*wrong, f"{len(figures())} figures and {len(TABLES)} tables, {len(wrong)} not so",
           sep="\n", file=sys.stderr)
     return 1 if wrong else 0
 

@@ -6,35 +6,33 @@ proved the crates below. It needs the kit's `rt` on the path.
 import shutil
 import subprocess
 import sys
+from collections.abc import Iterator
 from pathlib import Path
 
-TOP = Path(__file__).resolve().parent.parent.parent
+from documents import TOP
+
+sys.path.append(str(TOP / "bench" / "rattle"))
+from source import files_of, tell  # noqa: E402
+
 # The folders of a crate whose files are formatted, and how their names end.
-FOLDERS = ("src", "specs", "proofs")
-ENDINGS = (".rt", ".antt")
+FOLDERS, ENDINGS = ("src", "specs", "proofs"), (".rt", ".antt")
 
 
-def files_of(crate: Path) -> list[str]:
-    """The files of a crate that `rt fmt` formats."""
-    inside = [path for folder in FOLDERS for path in sorted((crate / folder).rglob("*"))]
-    return [str(path) for path in inside if path.suffix in ENDINGS and path.is_file()]
-
-
-def faults_of(rattle: str, crate: Path) -> list[str]:
+def faults_of(rattle: str, crate: Path) -> Iterator[str]:
     """What the kit says of the crate's files that aren't formatted."""
-    said = subprocess.run([rattle, "fmt", "--check", *files_of(crate)], text=True,
+    files = [path for folder in FOLDERS for ending in ENDINGS
+             for path in files_of(str(crate / folder), ending)]
+    said = subprocess.run([rattle, "fmt", "--check", *files], text=True, check=False,
                           stdout=subprocess.PIPE, stderr=subprocess.STDOUT)
-    return said.stdout.splitlines() or [f"{crate}: not formatted"] if said.returncode else []
+    if said.returncode:
+        yield from said.stdout.splitlines() or [f"{crate}: not formatted"]
 
 
 def main() -> int:
     kit = Path(shutil.which("rt") or sys.exit("rt is not on the path")).resolve().parent
-    crates = [path for path in sorted((TOP / "crates").iterdir()) if files_of(path)]
+    crates = sorted(path.parent for path in TOP.glob("crates/*/src"))
     faults = [fault for crate in crates for fault in faults_of(str(kit / "rattle"), crate)]
-    for fault in faults:
-        print(fault, file=sys.stderr)
-    print(f"{len(crates)} crates, {len(faults)} files aren't formatted", file=sys.stderr)
-    return 1 if faults or not crates else 0
+    return tell(faults, f"{len(crates)} crates, %d files aren't formatted", len(crates))
 
 
 if __name__ == "__main__":

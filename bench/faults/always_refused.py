@@ -30,7 +30,7 @@ TOP = Path(__file__).resolve().parents[2]
 sys.path += [str(TOP / "bench" / folder) for folder in ("", "trials", "rattle")]
 from case_texts import names_of_cases  # noqa: E402
 from fault_tables import print_row  # noqa: E402
-from source import Item, function_around  # noqa: E402
+from source import Item, Project, files_of, function_around, read  # noqa: E402
 from unproved import Builder, bytes_of, kit_folder, run_program, status_of  # noqa: E402
 
 # How long a test may take, and a program of cases, with the checks of `rt try` in it.
@@ -43,25 +43,11 @@ TRANSCRIPTS, PROGRAM = "try_cases", "sctd"
 # How a program of cases, and try_cases.py, begin the line of one that passed.
 PASSED = "ok "
 
-# The byte of a built program behind this text is the number of the call that is refused; 0 is none.
-MARK = b"THE-CALL-THAT-IS-REFUSED:"
-# It stands in C, since a constant of Rattle is folded into the code.
-SWITCH = "refusal_switch"
-SWITCH_CODE = """//! Which call is refused.
-#![tactic(auto)]
-
-unsafe extern "C" {
-    safe fn call_that_is_refused() -> u8;
-}
-
-/// Whether the call with this number is refused.
-pub fn is_on(number: u8) -> bool {
-    call_that_is_refused() == number
-}
-"""
-SWITCH_C = """static const volatile unsigned char mark[] = "%s\\0";
-unsigned char call_that_is_refused(void) { return mark[sizeof mark - 2]; }
-""" % MARK.decode()
+# The crate that says which call is refused, beside this file, and what stands in a built program
+# before the byte that is the call's number. (`rt ci` stops at a file *.rt outside crates/, so the
+# crate's source has one suffix more here.)
+SWITCH, MARK = "refusal_switch", b"THE-CALL-THAT-IS-REFUSED:"
+SWITCH_SOURCE = "src/lib.rt.txt"
 
 
 class Call(NamedTuple):
@@ -82,53 +68,22 @@ def calls() -> list[Call]:
     return [Call(*line.split(" | ")) for line in lines if not line.startswith("#")]
 
 
-class Sources:
-    """The sources of a repository's crates."""
-
-    def __init__(self, top: Path) -> None:
-        self.top = top
-        self.known: dict[str, str] = {}
-
-    def text_of(self, crate: str) -> str:
-        """All sources of a crate, as one text; nothing of a crate that isn't in the repository."""
-        if crate not in self.known:
-            paths = sorted((self.top / "crates" / crate / "src").rglob("*.rt"))
-            texts = [path.read_text(encoding="utf-8") for path in paths]
-            self.known[crate] = "\n".join(texts)
-        return self.known[crate]
-
-    def has_variant(self, crate: str, name: str, variant: str) -> bool:
-        """Whether a crate has the variant, or hands on the enum of one that has it."""
-        text = self.text_of(crate)
-        body = re.search(r"\benum %s\b[^{]*\{(.*?)^\}" % name, text, re.MULTILINE | re.DOTALL)
-        if body:
-            return re.search(r"^ +%s\b" % variant, body[1], re.MULTILINE) is not None
-        origin = origin_of(text, name, "pub use")
-        if origin is None or origin in (crate, "crate"):
-            return False
-        return self.has_variant(origin, name, variant)
+def path_of(top: Path, call: Call) -> Path:
+    """The file of a call in a repository."""
+    return top / "crates" / call.crate / "src" / call.file
 
 
-def origin_of(text: str, name: str, word: str = "use") -> str | None:
-    """The first name of the path by which a text brings a name in; None where it doesn't."""
-    for path in re.findall(r"^ *(?:pub )?%s ([^;]+);" % word, text, re.MULTILINE):
-        if re.search(r"(?:::|[{\s])%s\s*(?:[,}]|$)" % name, path):
-            return str(path.split("::")[0])
-    return None
-
-
-def faults_of_refusal(call: Call, text: str, sources: Sources) -> Iterator[str]:
-    """What isn't so of the types and variants that a refusal names, in the text of its file."""
+def faults_of_refusal(call: Call, project: Project) -> Iterator[str]:
+    """What isn't so of the types and variants that a refusal names, in the module of its file."""
+    path = str(path_of(TOP, call))
+    module = next(one for one in project.crates[call.crate].root.all() if one.path == path)
     for name, variant in re.findall(r"\b([A-Z]\w*)(?:::([A-Z]\w*))?", call.refusal):
-        if name in ("Err", "None"):
-            continue
-        is_own = re.search(r"\b(?:enum|struct) %s\b" % name, text)
-        origin = call.crate if is_own else origin_of(text, name)
-        crate = call.crate if origin in ("crate", "super", "self") else origin
-        if crate is None:
+        found = project.resolve(module, [name])
+        if found is None and name not in (*module.used, "Err", "None"):
             yield "%s doesn't know %s" % (call.file, name)
-        elif variant and not sources.has_variant(crate, name, variant):
-            yield "%s has no %s::%s" % (crate, name, variant)
+        elif variant and not (isinstance(found, Item)
+                              and re.search(r"^ +%s\b" % variant, found.head, re.M)):
+            yield "%s has no variant %s" % (name, variant)
 
 
 def at_its_begin(text: str, function: Item, line: str) -> str:
@@ -163,35 +118,33 @@ def cases_in(printed: bytes) -> list[str]:
     return [line[len(PASSED) :] if line.startswith(PASSED) else line for line in lines]
 
 
-def names_what_fails(call: Call, sources: Sources) -> bool:
+def names_what_fails(call: Call) -> bool:
     """Whether what must fail is a test, or a case that a program is to tell to be `ok`."""
     if call.tests == TRANSCRIPTS:
         return call.must_fail in names_of_cases()
-    crate = crate_of(sources.top, call.tests)
+    crate = crate_of(TOP, call.tests)
     if is_program(crate):
         return call.must_fail in cases_in(bytes_of(crate / "stdout"))
-    text = sources.text_of(call.tests)
-    return re.search(r"#\[test\]\s+fn %s\(" % call.must_fail, text) is not None
+    test = re.compile(r"#\[test\]\s+fn %s\(" % call.must_fail)
+    return any(test.search(read(path)) for path in files_of(str(crate / "src"), ".rt"))
 
 
-def faults_of(call: Call, sources: Sources) -> Iterator[str]:
+def faults_of(call: Call, project: Project) -> Iterator[str]:
     """What isn't so of a call in the sources."""
     try:
-        path = sources.top / "crates" / call.crate / "src" / call.file
-        text = path.read_text(encoding="utf-8")
-        planted(text, call, 0)
+        planted(path_of(TOP, call).read_text(encoding="utf-8"), call, 0)
     except (OSError, ValueError) as why:
         yield str(why)
         return
-    yield from faults_of_refusal(call, text, sources)
-    if not names_what_fails(call, sources):
+    yield from faults_of_refusal(call, project)
+    if not names_what_fails(call):
         yield "%s has no test or case %s" % (call.tests, call.must_fail)
 
 
 def is_in_sources(calls: list[Call]) -> bool:
     """Whether each call can be planted and its test is there; what isn't so is told."""
-    sources = Sources(TOP)
-    wrong = [(call, why) for call in calls for why in faults_of(call, sources)]
+    project = Project()
+    wrong = [(call, why) for call in calls for why in faults_of(call, project)]
     for call, why in wrong:
         print("%s %s: %s" % (call.crate, call.name, why), file=sys.stderr)
     lost = len({call for call, _ in wrong})
@@ -210,10 +163,9 @@ def copied(keep: Path | None = None) -> Iterator[Path]:
 
 def add_switch(top: Path, users: Iterable[str]) -> None:
     """Adds the crate that says which call is refused, for these crates to use."""
-    for name, text in (("src/lib.rt", SWITCH_CODE), ("c/switch.c", SWITCH_C)):
-        path = top / "crates" / SWITCH / name
-        path.parent.mkdir(parents=True)
-        path.write_text(text, encoding="utf-8")
+    crate = shutil.copytree(Path(__file__).with_name(SWITCH), top / "crates" / SWITCH)
+    source = crate / SWITCH_SOURCE
+    source.rename(source.with_suffix(""))
     listed = (top / "crates.txt").read_text(encoding="utf-8").splitlines()
     lines = [line + " " + SWITCH if line.split(":")[0] in users else line for line in listed]
     text = "\n".join(lines + [SWITCH + ":"]) + "\n"
@@ -223,7 +175,7 @@ def add_switch(top: Path, users: Iterable[str]) -> None:
 def plant_all(top: Path, numbers: dict[Call, int]) -> None:
     """Plants the refusals in a copy of the repository."""
     for call, number in numbers.items():
-        path = top / "crates" / call.crate / "src" / call.file
+        path = path_of(top, call)
         text = path.read_text(encoding="utf-8")
         path.write_text(planted(text, call, number), encoding="utf-8")
     add_switch(top, {call.crate for call in numbers})
@@ -243,8 +195,7 @@ class Tests:
             return self.failed_transcripts(path)
         if is_program(self.crate):
             return self.failed_cases(path)
-        ends = self.ends_of(path)
-        return [name.split("::")[-1] for name, end, _ in ends if end != "ok"] if ends else None
+        return self.failed_tests(path)
 
     @contextmanager
     def switched(self, number: int) -> Iterator[Path]:
@@ -264,15 +215,15 @@ class Tests:
             return self.run(path)
         return None
 
-    def ends_of(self, path: Path) -> list[tuple[str, str, str]]:
-        """The name of each test, how it ended, and the lines behind that."""
+    def failed_tests(self, path: Path) -> list[str] | None:
+        """The tests that don't end well; None where none was run."""
         words = [str(self.kit / "bin" / "rattle-test"), "--seconds", str(SECONDS), str(path)]
         # In a folder of its own: what an earlier run has left there would let tests fail.
         with tempfile.TemporaryDirectory() as folder:
             done = subprocess.run(words, cwd=folder, stdout=subprocess.PIPE,
                                   stderr=subprocess.STDOUT, check=False)
-        text = done.stdout.decode(errors="replace")
-        return re.findall(r"^test (\S+) \.\.\. (.*)((?:\n .*)*)", text, re.MULTILINE)
+        ends = re.findall(r"^test (\S+) \.\.\. (.*)", done.stdout.decode(errors="replace"), re.M)
+        return [name.split("::")[-1] for name, end in ends if end != "ok"] if ends else None
 
     def failed_cases(self, path: Path) -> list[str]:
         """The cases that the program doesn't tell to be `ok` as its file `stdout` does."""
@@ -308,6 +259,20 @@ def build(kit: Path, top: Path, name: str, place: Path) -> Tests | None:
     return tests
 
 
+def programs(top: Path, names: Iterable[str]) -> Iterator[Tests]:
+    """The tests and programs of a copy of the repository, built; one in which something fails as it
+    is is told, and passed over."""
+    kit = kit_folder()
+    for name in dict.fromkeys(names):
+        with tempfile.TemporaryDirectory() as place:
+            tests = build(kit, top, name, Path(place))
+            found = tests.failed(0) if tests else None
+            if tests and found == []:
+                yield tests
+            else:
+                print("%s: as it is, it fails: %s" % (name, found), flush=True)
+
+
 def is_caught(call: Call, number: int, tests: Tests) -> bool:
     """Tries one call, and prints what came of it."""
     failed = tests.failed(number)
@@ -320,17 +285,15 @@ def is_caught(call: Call, number: int, tests: Tests) -> bool:
     return caught
 
 
-def try_calls(kit: Path, top: Path, name: str, numbers: dict[Call, int]) -> int:
-    """Tries the calls that a crate's tests are to catch. How many of them weren't caught."""
-    with tempfile.TemporaryDirectory() as place:
-        tests = build(kit, top, name, Path(place))
-        found = tests.failed(0) if tests else None
-        if tests is None or found != []:
-            print("%s: its tests fail as they are: %s" % (name, found), flush=True)
-            for call in numbers:
-                print("%s %s: NOT TRIED" % (call.crate, call.name), flush=True)
-            return len(numbers)
-        return sum(not is_caught(call, number, tests) for call, number in numbers.items())
+def caught_calls(top: Path, numbers: dict[Call, int]) -> int:
+    """Tries each call with the tests that are to catch it. How many of them were caught."""
+    caught, left = 0, dict(numbers)
+    for tests in programs(top, (call.tests for call in numbers)):
+        for call in [call for call in left if call.tests == tests.name]:
+            caught += is_caught(call, left.pop(call), tests)
+    for call in left:
+        print("%s %s: NOT TRIED" % (call.crate, call.name), flush=True)
+    return caught
 
 
 def main() -> int:
@@ -350,10 +313,7 @@ def main() -> int:
         return 0 if numbers and is_right else 1
     with copied(asked.keep) as top:
         plant_all(top, numbers)
-        kit, missed = kit_folder(), 0
-        for name in dict.fromkeys(call.tests for call in numbers):
-            of_crate = {call: n for call, n in numbers.items() if call.tests == name}
-            missed += try_calls(kit, top, name, of_crate)
+        missed = len(numbers) - caught_calls(top, numbers)
     print("%d calls, %d not caught" % (len(numbers), missed))
     return 1 if missed or not numbers else 0
 

@@ -18,8 +18,8 @@ from pathlib import Path
 
 TOP = Path(__file__).resolve().parents[2]
 sys.path += [str(TOP / "bench"), str(TOP / "bench" / "rattle")]
-from always_refused import SWITCH, Tests, add_switch, at_its_begin, build, copied  # noqa: E402
-from always_refused import crate_of, is_program  # noqa: E402
+from always_refused import SWITCH, Tests, add_switch, at_its_begin, copied, crate_of  # noqa: E402
+from always_refused import is_program, programs  # noqa: E402
 from edits import Change, Edit, all_edits  # noqa: E402
 from source import Item, function_around, parameters, parts_of_impl  # noqa: E402
 from unproved import Builder, kit_folder  # noqa: E402
@@ -108,16 +108,10 @@ def seen_in(top: Path, edits: list[Edit], crates: list[str]) -> dict[Edit, list[
     """What fails with each edit that can be planted, of programs that are built once."""
     planted = plant_all(top, edits)
     seen: dict[Edit, list[str]] = {edit: [] for edit in planted.values()}
-    for name in crates:
-        with tempfile.TemporaryDirectory() as place:
-            tests = build(kit_folder(), top, name, Path(place))
-            found = tests.failed(0) if tests else None
-            if tests is None or found != []:
-                print("%s: as it is, it fails: %s" % (name, found), flush=True)
-                continue
-            for number, edit in planted.items():
-                failed = tests.failed(number)
-                seen[edit] += told(name, ["(too slow)"] if failed is None else failed)
+    for tests in programs(top, crates):
+        for number, edit in planted.items():
+            failed = tests.failed(number)
+            seen[edit] += told(tests.name, ["(too slow)"] if failed is None else failed)
     return seen
 
 

@@ -1,34 +1,33 @@
-"""Prints where the time of a CI run goes: minutes a crate, for its library, its tests and its
-must-fail edits.
+"""Prints where the time of a CI run goes: minutes of the processor for each crate's library, tests
+and must-fail edits.
 
 ci_time.py --pid NUMBER   watches the processes below a run that goes on, until it ends
 ci_time.py --last         says what CI does and how long its last run took, and runs nothing
 
 Each second it reads from /proc what the processes below the run have used, and adds it to the crate
-that their command line names; what isn't of a crate stands under "other". Wall minutes are those
-from the first sight of a crate's part to the last. Last comes the line of this run for the table in
-PERFORMANCE.md, from which --last reads.
+that their command line names; what isn't of a crate stands under "other". Last comes the line of
+this run for the table in PERFORMANCE.md, from which --last reads.
 """
 
 import argparse
-import glob
 import os
 import re
 import sys
 import time
 from collections import defaultdict
-from typing import Iterator, NamedTuple, Optional, Tuple
+from collections.abc import Iterator
+from pathlib import Path
+from typing import NamedTuple
 
 TICKS = os.sysconf("SC_CLK_TCK")
 PARTS = ("library", "tests", "edits", "run")
 BETWEEN_LOOKS = 1.0
-TOP = os.path.dirname(os.path.dirname(os.path.dirname(os.path.abspath(__file__))))
-DOCUMENT = os.path.join(TOP, "docs", "internals", "PERFORMANCE.md")
-EDITS = os.path.join(TOP, "crates", "*", "must-fail", "*.edit")
-CRATES = os.path.join(TOP, "crates", "*", "src")
+TOP = Path(__file__).resolve().parents[2]
+DOCUMENT = TOP / "docs" / "internals" / "PERFORMANCE.md"
+EDITS, CRATES = "crates/*/must-fail/*.edit", "crates/*/src"
 
 # The crate and the part of the check that a process works on.
-Place = Tuple[str, str]
+Place = tuple[str, str]
 
 
 class Run(NamedTuple):
@@ -45,12 +44,6 @@ class Run(NamedTuple):
     cores: int
     wall: int
 
-    def line(self) -> str:
-        return "| %s |" % " | ".join(map(str, self))
-
-    def told(self) -> str:
-        return LAST.format(**self._asdict())
-
 
 RUN = re.compile(r"^\| (\d{4}-\d{2}-\d{2})" + r" \| (\d+)" * 8 + r" \|$", re.MULTILINE)
 PLAN = """\
@@ -64,24 +57,18 @@ the wall on {cores} cores, and {all} of the processor: {library} for libraries, 
 and {tried} for {edits} must-fail edits."""
 
 
-def runs_in(text: str) -> list[Run]:
-    """The whole lines of the table of CI's runs, the last one last."""
-    return [Run(found[1], *map(int, found.groups()[1:])) for found in RUN.finditer(text)]
-
-
 def tell_last() -> int:
-    """Says what CI does, and how long it took; 1 where the document doesn't say it."""
-    with open(DOCUMENT, encoding="utf-8") as file:
-        found = runs_in(file.read())
+    """Says what CI does, and how long its last run took by the table; 1 where that has no line."""
+    found = RUN.findall(DOCUMENT.read_text(encoding="utf-8"))
     print(PLAN)
-    print(found[-1].told() if found else "PERFORMANCE.md has no run of CI")
+    print(LAST.format(**dict(zip(Run._fields, found[-1]))) if found
+          else "PERFORMANCE.md has no run of CI")
     return 0 if found else 1
 
 
 def read(path: str) -> bytes:
     try:
-        with open(path, "rb") as file:
-            return file.read()
+        return Path(path).read_bytes()
     except OSError:
         return b""
 
@@ -89,27 +76,23 @@ def read(path: str) -> bytes:
 def processes() -> dict[int, tuple[int, float]]:
     """The parent and the used seconds of each process, by its number."""
     found = {}
-    for name in os.listdir("/proc"):
-        if name.isdigit():
-            fields = read("/proc/%s/stat" % name).rpartition(b")")[2].split()
-            if fields:
-                used = (int(fields[11]) + int(fields[12])) / TICKS
-                found[int(name)] = (int(fields[1]), used)
+    for pid in map(int, filter(str.isdigit, os.listdir("/proc"))):
+        fields = read(f"/proc/{pid}/stat").rpartition(b")")[2].split()
+        if fields:
+            found[pid] = int(fields[1]), (int(fields[11]) + int(fields[12])) / TICKS
     return found
 
 
-def part_of(pid: int) -> Optional[Place]:
+def part_of(pid: int) -> Place | None:
     """The crate and the part of the check that a process works on, if its words say so."""
-    words = read("/proc/%d/cmdline" % pid).decode("utf-8", "replace").split("\0")
+    words = read(f"/proc/{pid}/cmdline").decode("utf-8", "replace").split("\0")
+    name = os.path.basename(words[0])
     if "--crate-name" in words:
         crate = words[words.index("--crate-name") + 1]
-        if "/rt-edit" in os.path.realpath("/proc/%d/cwd" % pid):
+        if "/rt-edit" in os.path.realpath(f"/proc/{pid}/cwd"):
             return crate, "edits"
         return crate, "tests" if "--test" in words else "library"
-    name = os.path.basename(words[0])
-    if name.endswith("_tests"):
-        return name[:-len("_tests")], "run"
-    return None
+    return (name.removesuffix("_tests"), "run") if name.endswith("_tests") else None
 
 
 class Watch:
@@ -119,21 +102,21 @@ class Watch:
         self.root, self.begun = root, time.monotonic()
         self.parts: dict[int, Place] = {}
         self.used: dict[tuple[int, Place], float] = {}
-        self.seen: dict[Place, tuple[float, float]] = {}
+
+    def minutes(self) -> float:
+        """For how long it has been watched."""
+        return (time.monotonic() - self.begun) / 60
 
     def look(self) -> bool:
         """Takes down what each process below the root has used so far."""
-        now, found = time.monotonic() - self.begun, processes()
+        found = processes()
         for pid in found:
             above, chain = pid, []
             while above in found and above != self.root and above > 1:
                 chain.append(above)
                 above = found[above][0]
             if above == self.root and chain:
-                part = self.part(chain)
-                self.used[pid, part] = found[pid][1]
-                first = self.seen.get(part, (now, now))[0]
-                self.seen[part] = (first, now)
+                self.used[pid, self.part(chain)] = found[pid][1]
         return self.root in found
 
     def part(self, chain: list[int]) -> Place:
@@ -146,39 +129,28 @@ class Watch:
         return ("other", "run")
 
     def sums(self) -> dict[str, dict[str, float]]:
-        """The seconds of each part of each crate."""
+        """The minutes of each part of each crate, and of all."""
         sums: dict[str, dict[str, float]] = defaultdict(lambda: dict.fromkeys(PARTS, 0.0))
         for (_, (crate, part)), seconds in self.used.items():
-            sums[crate][part] += seconds
+            for name in (crate, "all"):
+                sums[name][part] += seconds / 60
         return sums
 
-    def as_line(self) -> Run:
+    def as_run(self) -> Run:
         """This run, for the table of CI's runs."""
-        of = [(part, seconds) for (_, (_, part)), seconds in self.used.items()]
-        library, tests, tried = (
-            round(sum(s for name, s in of if name == part) / 60) for part in PARTS[:3])
-        return Run(date=time.strftime("%Y-%m-%d"), crates=len(glob.glob(CRATES)),
-                   edits=len(glob.glob(EDITS)), library=library, tests=tests, tried=tried,
-                   all=round(sum(seconds for _, seconds in of) / 60),
-                   cores=len(os.sched_getaffinity(0)),
-                   wall=round((time.monotonic() - self.begun) / 60))
+        of = self.sums()["all"]
+        library, tests, tried = (round(of[part]) for part in PARTS[:3])
+        return Run(time.strftime("%Y-%m-%d"), len(list(TOP.glob(CRATES))),
+                   len(list(TOP.glob(EDITS))), library, tests, tried, round(sum(of.values())),
+                   len(os.sched_getaffinity(0)), round(self.minutes()))
 
     def table(self) -> Iterator[str]:
-        """The lines of the table, the most expensive crate first."""
-        sums = self.sums()
-        row = "| %-22s | %8s | %8s | %8s | %8s | %-s |"
-        yield row % ("Crate", "library", "tests", "edits", "run", "wall minutes, from and to")
-        yield row.replace("%-s", "%s") % ("---", "--:", "--:", "--:", "--:", "---")
-        total = dict.fromkeys(PARTS, 0.0)
-        for crate, of in sorted(sums.items(), key=lambda pair: -sum(pair[1].values())):
-            walls = ["%s %.0f to %.0f" % (part, first / 60, last / 60)
-                     for (name, part), (first, last) in sorted(self.seen.items())
-                     if name == crate and part in ("library", "tests", "edits")]
-            yield row % (crate, *("%.1f" % (of[part] / 60) for part in PARTS), ", ".join(walls))
-            for part in PARTS:
-                total[part] += of[part]
-        yield row % ("all", *("%.1f" % (total[part] / 60) for part in PARTS),
-                     "%.1f of the processor" % (sum(total.values()) / 60))
+        """The lines of the table, the most expensive crate first, behind all together."""
+        row = "| %-22s | %8s | %8s | %8s | %8s |"
+        yield row % ("Crate", *PARTS)
+        yield row % ("---", *["--:"] * len(PARTS))
+        for crate, of in sorted(self.sums().items(), key=lambda pair: -sum(pair[1].values())):
+            yield row % (crate, *("%.1f" % of[part] for part in PARTS))
 
 
 def main() -> int:
@@ -193,8 +165,9 @@ def main() -> int:
     while watch.look():
         time.sleep(BETWEEN_LOOKS)
     print("\n".join(watch.table()))
-    print("%.1f minutes by the wall" % ((time.monotonic() - watch.begun) / 60))
-    print("For the table of CI's runs in PERFORMANCE.md:\n" + watch.as_line().line())
+    print("%.1f minutes by the wall" % watch.minutes())
+    print("For the table of CI's runs in PERFORMANCE.md:")
+    print("| %s |" % " | ".join(map(str, watch.as_run())))
     return 0
 
 

@@ -13,13 +13,13 @@ an empty one, and the same of a store that took only what layout 2 keeps.
 import os
 import random
 import sys
-from collections.abc import Sequence
+from collections.abc import Iterable, Sequence
 from pathlib import Path
 from typing import Optional
 
 import make_release as rf2
-from compare_shell import DAYS, KEPT_SORTS, REFERENCED, SEED, Shell, Table, ask, columns_of
-from compare_shell import import_delta, import_full, newest, query_of, rows_alone
+from compare_shell import DAYS, KEPT_SORTS, SEED, Shell, Table, columns_of
+from compare_shell import newest, query_of, rows_alone
 from measure_harness import Sctd, compared_by, made_release
 
 sys.path.append(str(Path(__file__).resolve().parents[2] / "service"))
@@ -41,8 +41,9 @@ Questions = list[tuple[str, str]]
 def pages(command: str, refset: str, ends: Sequence[str]) -> Questions:
     """Pages of the members of a language (MEMBERS), or of its values (VALUES), that together have
     these rows."""
-    active, column, form, order = ("x.active = 1 AND ", REFERENCED, "%s", ", x.id") if (
-        command == "VALUES") else ("", "id", "'%s'", "")
+    active, column, form, order = "", "id", "'%s'", ""
+    if command == "VALUES":
+        active, column, form, order = "x.active = 1 AND ", "referencedComponentId", "%s", ", x.id"
     found = []
     for after in ["-", *ends[LIMIT - 1 : MEMBERS - 1 : LIMIT]]:
         least = "" if after == "-" else " AND x.%s > %s" % (column, form % after)
@@ -108,26 +109,23 @@ def show_memory(what: str, sctd: Sctd, rows: int, ground: int) -> None:
           " file %.1f a row" % said, flush=True)
 
 
-def rows_in(told: bytes) -> int:
-    """How many rows a reply to an import says to be new."""
-    if not told.startswith(b"OK "):
-        raise SystemExit("import: %r" % told)
-    return int(told.split()[2])
+def count_rows(release: Path, sorts: Iterable[str]) -> int:
+    return sum(1 for sort in sorts for _ in rf2.rows_of(release, sort))
 
 
 def compare(program: str, folder: str, count: int) -> bool:
-    place = Path(folder).resolve() / ("package%d" % count)
+    """Whether all replies and answers were the same."""
+    place = Path(folder, "package%d" % count)
     made_release(str(place), count, is_package=True)
-    table, shell = Table(count), Shell(str(place), SHELL, tuple(KEPT_SORTS))
+    full, chance, shell = place / "full", random.Random(SEED), Shell(
+        str(place), SHELL, tuple(KEPT_SORTS))
     basic, sctd = (Sctd(program, str(place), "package%d.store" % layout, layout)
                    for layout in (2, 3))
-    ground = held_by(sctd)
-    rows = rows_in(import_full(table, sctd, shell, INDEXES))
-    rows += rows_in(import_delta(table, sctd, shell, has_peak=True))
-    served = sctd.served()
-    table.show("open", served.opening, None)
-    shell.kept = served.held()
-    full, chance = place / "full", random.Random(SEED)
+    table, ground = Table(count, sctd, shell), held_by(sctd)
+    of_full, of_delta = (count_rows(place / name, KEPT_SORTS) for name in ("full", "delta"))
+    table.take("import the Full release, with its indexes", "full", f"1 {of_full} 0", INDEXES)
+    table.take("import a Delta of 100 rows", "delta", f"2 {of_delta} 0")
+    served = table.open()
     looked_up, (members, values) = lookups(full, chance), of_language(full)
     concepts = [row[4] for row in rf2.rows_of(full, "D")]
     names = [called(chance.choice(concepts), chance.choice(DAYS), str(chance.choice(rf2.LANGUAGES)))
@@ -138,13 +136,14 @@ def compare(program: str, folder: str, count: int) -> bool:
             ("values of a language, 1,000 a page ({} rows)", values, rows_alone),
             ("what 10,000 concepts were called ({} rows)", names, joined)):
         lines, queries = zip(*questions)
-        ask(table, served, shell, title, lines, queries, rows_of)
+        table.ask(served, title, lines, queries, rows_of)
     served.end()
-    show_memory("layout 3, all files", sctd, rows, ground)
-    show_memory("layout 2, its files", basic, rows_in(basic.take("full")[0]), ground)
+    show_memory("layout 3, all files", sctd, of_full + of_delta, ground)
+    basic.take("full")
+    show_memory("layout 2, its files", basic, count_rows(full, rf2.BASIC_SORTS), ground)
     print("bytes of the shell's file: %d" % os.path.getsize(shell.path))
     return table.alike
 
 
 if __name__ == "__main__":
-    sys.exit(compared_by(__file__, __doc__, Table.HEAD, compare))
+    sys.exit(compared_by(__doc__, Table.HEAD, compare))

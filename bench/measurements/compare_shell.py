@@ -5,30 +5,29 @@ compare_shell.py PROGRAM FOLDER [ROWS ..]
 Both sides import the Full release: the shell by `.import` into a table a kind, keyed by id and
 date, and makes its indexes after the rows. Then both import the same release once more, and the
 Delta; and both are asked the same questions, each kind in a process of its own, whose answers have
-to be the same lines; so have those of `AT 1` and of the shell from before the Delta, since its
-tables have no number of an import. Before those of an audit the shell makes indexes for them. Last,
-both import a release by which all concepts are a tree below the root, and are asked for all of
-them, and for what is above some; the two segments of sctd's store are merged before.
+to be the same lines. Before those of an audit the shell makes indexes for them. Last, both import a
+release by which all concepts are a tree below the root, and are asked for all of them, and for what
+is above some; the two segments of sctd's store are merged before.
 
 Terms are searched without regard to case in ASCII alone. The shell may keep as many bytes of pages
 in memory as `sctd` holds. Processor seconds are of the whole process for the shell, and of sctd's
-questions from behind its opening on. A peak is the greatest resident size of the process, which the
-system counts from this script's own on: so only those are told of what runs before it holds rows,
-and each size has a process of its own. The replies to the imports have to count the rows as this
-script does. The status is 1 where a reply or an answer is another one.
+questions from behind its opening on. A peak is the greatest resident size of a process. The replies
+to the imports have to count the rows as this script does. The status is 1 where a reply or an
+answer is another one.
 """
 
 import itertools
 import os
 import random
 import sys
-from collections.abc import Callable, Iterable, Iterator, Mapping, Sequence
+from collections.abc import Callable, Iterable, Iterator, Sequence
 from pathlib import Path
 from typing import Optional
 
 import make_release as rf2
 from make_release import IS_A
-from measure_harness import Cost, Sctd, Served, compared_by, made_release, print_row, ran
+from measure_harness import (
+    ROW_LINES, Cost, Sctd, Served, compared_by, made_release, print_row, ran)
 
 # The sorts of files that a store keeps, and the basic ones, which each layout does.
 KEPT_SORTS, BASIC = {**rf2.BASIC_SORTS, **rf2.FURTHER_SORTS}, tuple(rf2.BASIC_SORTS)
@@ -48,7 +47,7 @@ INDEXES = (
     "CREATE INDEX replacements ON A (referencedComponentId) WHERE active = 1;",
     "CREATE INDEX descriptions ON D (conceptId) WHERE active = 1;",
     "CREATE INDEX relationships ON R (sourceId) WHERE active = 1;")
-# For an audit: without them a Delta and the dates would read whole tables.
+# For an audit: without them a Delta would read whole tables.
 AUDIT_INDEXES = (
     "CREATE INDEX parents ON R (sourceId, destinationId) WHERE active = 1 AND typeId = %d;" % IS_A,
     "CREATE INDEX targets ON A (targetComponentId) WHERE active = 1;",
@@ -68,17 +67,9 @@ Asked = tuple[str, list[str]]
 Forms = Sequence[tuple[str, int, list[str]]]
 
 # What is asked: a title, how many lines, and their forms in turn. `{D[4]}` is what a row of kind D
-# that is drawn has in its column 4. Those that are asked as of the first import, too:
-FIRST: Forms = (
-    ("10,000 rows of any kind", 10_000, ["GET {any} {date}"]),
-    ("10,000 histories", 10_000, ["HISTORY {any}"]),
-    ("1,000 times CHILDREN", 1_000, ["CHILDREN {R[5]} {date}"]),
-    ("1,000 times REPLACED", 1_000, ["REPLACED {A[5]} {date}"]),
-    ("1,000 times ABOUT D", 1_000, ["ABOUT D {D[4]} {date}"]),
-    ("1,000 times ABOUT R", 1_000, ["ABOUT R {R[4]} {date}"]),
-    ("1,000 pages of 100", 1_000, ["PAGE C {date} {C[0]} 100"]))
-# Further ones, those of an audit, and what is asked once the concepts are a tree.
-FURTHER: Forms = (
+# that is drawn has in its column 4. First the usual questions, then those of an audit, and what is
+# asked once the concepts are a tree.
+USUAL: Forms = (
     ("100,000 concepts", 100_000, ["GET C {C[0]} {date}"]),
     ("100,000 descriptions", 100_000, ["GET D {D[0]} {date}"]),
     ("1,000 pages of 1,000", 1_000, ["PAGE C {date} {C[0]} 1000"]),
@@ -91,11 +82,8 @@ AUDITS: Forms = (
       for days, title in (("20250131 20261231", "of the last releases"),
                           ("20120731 20191231", "of seven years"))),
     ("the descriptions that 10,000 concepts ever had", 10_000, ["TIMELINE D {D[4]}"]),
-    ("the relationships that 10,000 concepts ever had", 10_000, ["TIMELINE R {R[4]}"]),
     ("what 10,000 components replace", 10_000, ["REPLACES {A[6]} {date}"]),
-    ("all concepts above 1,000 concepts", 1_000, ["ANCESTORS {C[0]} {date}"]),
-    ("all concepts below 1,000 concepts", 1_000, ["DESCENDANTS {C[0]} {date}"]),
-    ("the dates, 10,000 times", 10_000, ["DATES"]))
+    ("all concepts above 1,000 concepts", 1_000, ["ANCESTORS {C[0]} {date}"]))
 IN_A_TREE: Forms = (
     ("all concepts below the root, 10 times", 10, ["DESCENDANTS %d 20261231" % rf2.ROOT]),
     ("all concepts above 10,000 concepts, in a tree", 10_000, ["ANCESTORS {C[0]} 20261231"]))
@@ -125,18 +113,18 @@ class Shell:
         self.kept = 0
         self.run([*SETTINGS, *map(table_of, sorts)])
 
-    def run(self, lines: Sequence[str]) -> tuple[bytes, Cost]:
+    def run(self, lines: Sequence[str]) -> Cost:
         """What it prints for these lines, and what they cost."""
         cache = "PRAGMA cache_size = -%d;" % (self.kept // 1024)
         head = ["PRAGMA synchronous = FULL;", cache] if self.kept else []
         text = "\n".join([*head, *lines]) + "\n"
-        return ran(["sqlite3", "-batch", "-bail", self.path], text.encode(), self.place)
+        return ran(["sqlite3", "-batch", "-bail", self.path], text.encode())
 
     def take(self, name: str, indexes: Sequence[str] = ()) -> Cost:
         """Imports a release, and makes indexes. The rows are trusted to be new."""
         files = rf2.files_of(os.path.join(self.place, name), self.sorts)
         lines = ['.import --skip 1 "%s" %s' % (path, sort) for sort, path in files]
-        return self.run([".mode tabs", "BEGIN;", *lines, *indexes, "COMMIT;"])[1]
+        return self.run([".mode tabs", "BEGIN;", *lines, *indexes, "COMMIT;"])
 
     def take_again(self, name: str) -> Cost:
         """Imports a release, of which what is known is passed over."""
@@ -145,9 +133,9 @@ class Shell:
             lines += ["CREATE TABLE temp.staged_%s (%s);" % (sort, ", ".join(columns_of(sort))),
                       '.import --skip 1 --schema temp "%s" staged_%s' % (path, sort),
                       "INSERT OR IGNORE INTO %s SELECT * FROM temp.staged_%s;" % (sort, sort)]
-        return self.run([*lines, "COMMIT;"])[1]
+        return self.run([*lines, "COMMIT;"])
 
-    def asked(self, queries: Iterable[str]) -> tuple[bytes, Cost]:
+    def ask(self, queries: Iterable[str]) -> Cost:
         """The lines that it prints for queries, and what they cost."""
         return self.run([".mode list", '.separator "\\t" "\\n"', *queries])
 
@@ -172,13 +160,6 @@ REACHED = ("WITH RECURSIVE met (id) AS (SELECT x.{1} FROM R x WHERE x.{0} = {{na
            " UNION SELECT x.{1} FROM met JOIN R x ON x.{0} = met.id WHERE {2})"
            " SELECT id FROM met ORDER BY id;")
 IS_A_LINK = "x.active = 1 AND x.typeId = %d{latest[R]}" % IS_A
-ASSOCIATED = ("SELECT x.* FROM A x WHERE x.active = 1 AND x.{0} = {{name}}{{latest[A]}}"
-              " ORDER BY x.refsetId, x.{1}, x.id;")
-REFERENCED, TARGET = "referencedComponentId", "targetComponentId"
-# Each next date is looked up in the index of its table, which SQLite doesn't do by itself.
-DATES_OF = ("SELECT day FROM (WITH RECURSIVE met (day) AS (SELECT min(effectiveTime) FROM {0}"
-            " UNION ALL SELECT (SELECT min(effectiveTime) FROM {0} WHERE effectiveTime > day)"
-            " FROM met WHERE day NOT NULL) SELECT day FROM met WHERE day NOT NULL)")
 # By the better of the shell's two ways: the index on dates for few rows, and for many, which a plus
 # tells it, the order of the table.
 DELTA, LONG_DELTA = ("SELECT x.* FROM {kind} x WHERE %sx.effectiveTime > {begin} AND x.id > {after}"
@@ -189,23 +170,20 @@ DELTA, LONG_DELTA = ("SELECT x.* FROM {kind} x WHERE %sx.effectiveTime > {begin}
 QUERIES = {
     "GET": ("kind name date", "SELECT x.* FROM {kind} x WHERE {named} AND x.effectiveTime <= {date}"
             " ORDER BY x.effectiveTime DESC LIMIT 1;"),
-    "HISTORY": ("kind name", "SELECT x.* FROM {kind} x WHERE {named} ORDER BY x.effectiveTime;"),
     "ABOUT": ("kind name date", "SELECT x.* FROM {kind} x WHERE x.active = 1 AND x.{subject} ="
               " {name}{latest[its]} ORDER BY x.id;"),
     "PAGE": ("kind date after limit",
-             "SELECT x.* FROM {kind} x WHERE x.id > {after}{latest[its]} ORDER BY x.id LIMIT {limit};"),
+             "SELECT x.* FROM {kind} x WHERE x.id > {after}{latest[its]} ORDER BY x.id"
+             " LIMIT {limit};"),
     "TERMS": ("date limit prefix", "SELECT x.* FROM D x WHERE x.active = 1 AND x.term LIKE"
               " '{prefix}%'{latest[D]} ORDER BY x.id LIMIT {limit};"),
-    "CHILDREN": ("name date", "SELECT DISTINCT x.sourceId FROM R x WHERE x.destinationId = {name}"
-                 " AND " + IS_A_LINK + " ORDER BY x.sourceId;"),
     "DELTA": ("kind begin date after limit", DELTA),
     "TIMELINE": ("kind name", "SELECT x.* FROM {kind} x WHERE id IN (SELECT id FROM {kind} WHERE"
                  " active = 1 AND {subject} = {name}) ORDER BY id, effectiveTime;"),
-    "REPLACED": ("name date", ASSOCIATED.format(REFERENCED, TARGET)),
-    "REPLACES": ("name date", ASSOCIATED.format(TARGET, REFERENCED)),
+    "REPLACES": ("name date", "SELECT x.* FROM A x WHERE x.active = 1 AND x.targetComponentId ="
+                 " {name}{latest[A]} ORDER BY x.refsetId, x.referencedComponentId, x.id;"),
     "ANCESTORS": ("name date", REACHED.format("sourceId", "destinationId", IS_A_LINK)),
-    "DESCENDANTS": ("name date", REACHED.format("destinationId", "sourceId", IS_A_LINK)),
-    "DATES": ("", " UNION ".join(map(DATES_OF.format, BASIC)) + " ORDER BY day;")}
+    "DESCENDANTS": ("name date", REACHED.format("destinationId", "sourceId", IS_A_LINK))}
 
 
 def newest(sort: str, date: str, row: str = "x") -> str:
@@ -250,25 +228,11 @@ class Questions:
             return self.chance.choice(DAYS)
         if name == "word":
             return self.chance.choice(self.words).upper()
-        if name == "any":
-            kind = self.chance.choice("CDVRA")
-            return "%s %s" % (kind, self.row(kind)[0])
-        return self.row(name)
-
-    def row(self, kind: str) -> list[str]:
-        return self.chance.choice(self.rows[kind])
+        return self.chance.choice(self.rows[name])
 
     def of(self, forms: Forms) -> Iterator[Asked]:
         for title, count, texts in forms:
             yield title, [texts[number % len(texts)].format_map(self) for number in range(count)]
-
-    def of_each_kind(self) -> Iterator[Asked]:
-        """The questions that are asked as of the first import, too."""
-        yield from self.of(FIRST)
-        terms = filter(is_plain, (self.row("D")[7] for _ in range(1000)))
-        yield "searches of two or three words", [
-            "TERMS %s 10 %s" % (self["date"], " ".join(term.split(" ")[:number % 2 + 2]).upper())
-            for number, term in enumerate(terms)]
 
 
 def make_tree(place: str) -> None:
@@ -299,7 +263,7 @@ def rows_alone(told: bytes) -> Optional[bytes]:
     rows: list[bytes] = []
     count = 0
     for line in told.split(b"\n")[:-1]:
-        if line.startswith((b"ROW ", b"ID ", b"DATE ")):
+        if line.startswith(ROW_LINES):
             rows.append(line.partition(b" ")[2] + b"\n")
             count += 1
         elif line == b"END %d" % count:
@@ -315,19 +279,8 @@ class Table:
     HEAD = ("Rows", "Work", "sctd: wall", "processor", "peak, MB", "SQLite's shell: wall",
             "processor", "peak, MB", "processor, SQLite / sctd")
 
-    def __init__(self, rows: int) -> None:
-        self.rows, self.alike = rows, True
-
-    def check_imports(self, told: Mapping[int, bytes], of_full: int, of_delta: int) -> None:
-        """Compares the replies to the imports with the numbers of rows. It is done once they are
-        measured, since the rows would count in the peaks of what this process starts."""
-        wanted = {1: (of_full, 0), 2: (0, of_full), 3: (of_delta, 0)}
-        for number, counts in wanted.items():
-            reply = b"OK %d %d %d\n" % (number, *counts)
-            if told[number] != reply:
-                self.alike = False
-                said = (number, told[number], reply)
-                print("import %d: %r, NOT the same as %r" % said, flush=True)
+    def __init__(self, rows: int, sctd: Sctd, shell: Shell) -> None:
+        self.rows, self.sctd, self.shell, self.alike = rows, sctd, shell, True
 
     def show(self, title: str, ours: Optional[Cost], theirs: Optional[Cost],
              same: bool = True) -> None:
@@ -340,80 +293,63 @@ class Table:
         ratio = "%.1f" % (theirs.used / ours.used) if ours and theirs and ours.used else ""
         print_row(self.rows, title, *shown, ratio, behind="" if same else " NOT the same")
 
+    def take(self, title: str, name: str, counts: str, indexes: Sequence[str] = (),
+             is_again: bool = False) -> None:
+        """Lets both sides import a release. The reply has the number of the import, and how many
+        rows were new and known."""
+        ours = self.sctd.take(name)
+        theirs = self.shell.take_again(name) if is_again else self.shell.take(name, indexes)
+        self.show(title, ours, theirs, ours.text == "OK " + counts)
 
-def ask(table: Table, served: Served, shell: Shell, title: str, lines: Sequence[str],
-        queries: Iterable[str] = (), rows_in: Callable[[bytes], Optional[bytes]] = rows_alone
-        ) -> None:
-    """Asks both sides the same, and tells what that cost."""
-    told, ours = served.timed(["0 " + line for line in lines])
-    answered, theirs = shell.asked(queries or map(query_of, lines))
-    theirs.peak = None
-    table.show(title.format(answered.count(b"\n")), ours, theirs, rows_in(told) == answered)
+    def open(self) -> Served:
+        """Opens sctd's store. As much as that takes in memory the shell may keep from now on."""
+        served = self.sctd.served()
+        self.show("open", served.opening, None)
+        self.shell.kept = served.held()
+        return served
 
-
-def ask_in_a_tree(table: Table, sctd: Sctd, shell: Shell, asked: Iterable[Asked]) -> None:
-    """Lets both sides import the release that makes a tree of the concepts, and asks them."""
-    if not os.path.isdir(os.path.join(sctd.place, "tree")):
-        make_tree(sctd.place)
-    ours = sctd.take("tree")[1]
-    table.show("import other parents of each concept", ours, shell.take("tree"))
-    served = sctd.served()
-    for title, lines in asked:
-        ask(table, served, shell, title, lines)
-    served.end()
-
-
-def import_full(table: Table, sctd: Sctd, shell: Shell, indexes: Sequence[str] = INDEXES) -> bytes:
-    """Lets both sides import the Full release: sctd's reply."""
-    told, ours = sctd.take("full")
-    table.show("import the Full release, with its indexes", ours, shell.take("full", indexes))
-    return told
-
-
-def import_delta(table: Table, sctd: Sctd, shell: Shell, has_peak: bool = False) -> bytes:
-    """The same of the Delta."""
-    told, ours = sctd.take("delta")
-    theirs = shell.take("delta")
-    if not has_peak:
-        ours.peak = theirs.peak = None
-    table.show("import a Delta of 100 rows", ours, theirs)
-    return told
+    def ask(self, served: Served, title: str, lines: Sequence[str], queries: Iterable[str] = (),
+            rows_in: Callable[[bytes], Optional[bytes]] = rows_alone) -> None:
+        """Asks both sides the same, and tells what that cost."""
+        ours, theirs = served.ask(lines), self.shell.ask(queries or map(query_of, lines))
+        title = title.format(theirs.output.count(b"\n"))
+        self.show(title, ours._replace(peak=None), theirs._replace(peak=None),
+                  rows_in(ours.output) == theirs.output)
 
 
 def compare(program: str, folder: str, count: int) -> bool:
     """Whether all replies and answers were the same."""
     place = os.path.join(folder, str(count))
     made_release(place, count)
-    table, sctd, shell = Table(count), Sctd(program, place), Shell(place, SHELL, BASIC)
-    told = {1: import_full(table, sctd, shell)}
-    told[2], ours = sctd.take("full")
-    table.show("import it over itself", ours, shell.take_again("full"))
+    if not os.path.isdir(os.path.join(place, "tree")):
+        make_tree(place)
     chance = random.Random(SEED)
     of_full, rows = draw_rows(os.path.join(place, "full"), chance)
-    of_delta, _ = draw_rows(os.path.join(place, "delta"), chance)
+    of_delta, of_tree = (draw_rows(os.path.join(place, name), chance)[0]
+                         for name in ("delta", "tree"))
     drawn = Questions(rows, chance)
-    before = [(*asked, shell.asked(map(query_of, asked[1]))[0]) for asked in drawn.of_each_kind()]
-    told[3] = import_delta(table, sctd, shell)
-    table.check_imports(told, of_full, of_delta)
-    served = sctd.served()
-    table.show("open", served.opening, None)
-    shell.kept = served.held()
-    # What the shell was asked before the Delta.
-    for title, lines, answered in before:
-        said, ours = served.timed(["0 AT 1 " + line for line in lines])
-        table.show(title + ", as of the first import", ours, None, rows_alone(said) == answered)
-    for title, lines in (*drawn.of_each_kind(), *drawn.of(FURTHER)):
-        ask(table, served, shell, title, lines)
-    table.show("the shell's indexes for an audit", None, shell.run(AUDIT_INDEXES)[1])
+    shell = Shell(place, SHELL, BASIC)
+    table = Table(count, Sctd(program, place), shell)
+    table.take("import the Full release, with its indexes", "full", f"1 {of_full} 0", INDEXES)
+    table.take("import it over itself", "full", f"2 0 {of_full}", is_again=True)
+    table.take("import a Delta of 100 rows", "delta", f"3 {of_delta} 0")
+    served = table.open()
+    for title, lines in drawn.of(USUAL):
+        table.ask(served, title, lines)
+    table.show("the shell's indexes for an audit", None, shell.run(AUDIT_INDEXES))
     for title, lines in drawn.of(AUDITS):
-        ask(table, served, shell, title, lines)
+        table.ask(served, title, lines)
     served.end()
-    sctd.run("merge")
-    ask_in_a_tree(table, sctd, shell, drawn.of(IN_A_TREE))
-    sizes = os.path.getsize(sctd.path), os.path.getsize(shell.path)
+    table.sctd.run("merge")
+    table.take("import other parents of each concept", "tree", f"4 {of_tree} 0")
+    served = table.sctd.served()
+    for title, lines in drawn.of(IN_A_TREE):
+        table.ask(served, title, lines)
+    served.end()
+    sizes = os.path.getsize(table.sctd.path), os.path.getsize(shell.path)
     print("bytes of the files: sctd %d, SQLite %d" % sizes)
     return table.alike
 
 
 if __name__ == "__main__":
-    sys.exit(compared_by(__file__, __doc__, Table.HEAD, compare))
+    sys.exit(compared_by(__doc__, Table.HEAD, compare))

@@ -257,11 +257,6 @@ def reason_body(edition: Edition) -> Columns:
     return [what, component, edition.random.choice(REASONS)]
 
 
-def language_body(edition: Edition) -> Columns:
-    return [edition.random.choice(LANGUAGES), edition.a_description(),
-            edition.random.choice([PREFERRED, ACCEPTABLE])]
-
-
 def domain_body(edition: Edition) -> Columns:
     concept = edition.a_concept()
     constraint = "<< %d | %s |" % (concept, edition.term(4))
@@ -272,11 +267,6 @@ def domain_body(edition: Edition) -> Columns:
             "http://snomed.org/dom%d" % concept]
 
 
-def attribute_domain_body(edition: Edition) -> Columns:
-    return [ATTRIBUTE_DOMAINS, edition.random.choice(ATTRIBUTES), edition.a_concept(),
-            edition.random.choice("01"), "0..*", "0..1", MANDATORY, ALL_CONTENT]
-
-
 def attribute_range_body(edition: Edition) -> Columns:
     attribute = edition.random.choice(ATTRIBUTES)
     constraint = " OR ".join(
@@ -285,17 +275,14 @@ def attribute_range_body(edition: Edition) -> Columns:
     return [ATTRIBUTE_RANGES, attribute, constraint, rule, MANDATORY, ALL_CONTENT]
 
 
-def dependency_body(edition: Edition) -> Columns:
-    date = edition.random.choice(DATES)
-    return [DEPENDENCIES, MODEL, date, date]
-
-
 # What a member of each sort says.
 MEMBER_BODIES: dict[str, Callable[[Edition], Columns]] = {
     "OWLExpression": axiom_body,
     "Simple": lambda edition: [edition.random.choice(VALUE_SETS), edition.a_concept()],
     "AttributeValue": reason_body,
-    "Language": language_body,
+    "Language": lambda edition: [
+        edition.random.choice(LANGUAGES), edition.a_description(),
+        edition.random.choice([PREFERRED, ACCEPTABLE])],
     "SimpleMap": map_body,
     "ExtendedMap": extended_map_body,
     "RefsetDescriptor": lambda edition: [
@@ -303,9 +290,12 @@ MEMBER_BODIES: dict[str, Callable[[Edition], Columns]] = {
     "DescriptionType": lambda edition: [
         FORMATS, edition.random.choice([SYNONYM, FULLY_SPECIFIED, DEFINITION]), PLAIN_TEXT,
         edition.random.choice([255, 4096])],
-    "ModuleDependency": dependency_body,
+    "ModuleDependency": lambda edition: [
+        DEPENDENCIES, MODEL, *[edition.random.choice(DATES)] * 2],
     "MRCMDomain": domain_body,
-    "MRCMAttributeDomain": attribute_domain_body,
+    "MRCMAttributeDomain": lambda edition: [
+        ATTRIBUTE_DOMAINS, edition.random.choice(ATTRIBUTES), edition.a_concept(),
+        edition.random.choice("01"), "0..*", "0..1", MANDATORY, ALL_CONTENT],
     "MRCMAttributeRange": attribute_range_body,
     "MRCMModuleScope": lambda edition: [
         SCOPES, CORE, edition.random.choice([DOMAINS, ATTRIBUTE_DOMAINS, ATTRIBUTE_RANGES])]}

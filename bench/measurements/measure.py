@@ -19,14 +19,13 @@ import random
 import shutil
 import statistics
 import sys
-import time
 from collections.abc import Callable, Mapping, Sequence
 from pathlib import Path
 
 import make_release as rf2
 from measure_harness import (
-    MANY_ROWS, ROWS, Cost, Sctd, Served, asked_for, least, made_release, print_head, print_row,
-    processor_seconds, timed)
+    MANY_ROWS, MS, ROWS, TOLD, Cost, Sctd, Served, asked_for, least, made_release, print_head,
+    print_row, ran)
 
 DIGEST = Path(__file__).resolve().parents[2] / "examples" / "digest.py"
 SEED = 7
@@ -40,7 +39,6 @@ MOST = 250
 SEGMENTS, MANY_SEGMENTS = (2,), (128, MOST)
 # How often processes are run, and Deltas imported by lines; how many rows a step of a merge takes.
 TIMES, DELTAS, STEP = 5, 10, 1000
-MILLISECONDS, TOLD = 1e3, 200
 
 
 def dealt_out(place: Path, count: int) -> list[str]:
@@ -69,27 +67,29 @@ def questions(full: Path) -> dict[str, list[str]]:
 
     concepts = [row[0] for row in drawn("C", 10_000)]
     terms = [" ".join(row[7].split(" ")[:3]) for row in drawn("D", 1000)]
-    asked = {"10,000 lookups": [f"0 GET C {concept} {DATE}" for concept in concepts]}
+    asked = {"10,000 lookups": [f"GET C {concept} {DATE}" for concept in concepts]}
     for limit in (10, 100, 1000):
         asked[f"1,000 pages of {limit}"] = [
-            f"0 PAGE C {DATE} {concept} {limit}" for concept in concepts[:1000]]
-    asked["1,000 searches of terms"] = [f"0 TERMS {DATE} 10 {term}" for term in terms]
+            f"PAGE C {DATE} {concept} {limit}" for concept in concepts[:1000]]
+    asked["1,000 searches of terms"] = [f"TERMS {DATE} 10 {term}" for term in terms]
     asked["100 searches of a word, limit 1,000"] = [
-        f"0 TERMS {DATE} 1000 {term.split(' ')[0]}" for term in terms[:100]]
+        f"TERMS {DATE} 1000 {term.split(' ')[0]}" for term in terms[:100]]
     asked["1,000 questions for children"] = [
-        f"0 CHILDREN {row[5]} {DATE}" for row in drawn("R", 1000)]
+        f"CHILDREN {row[5]} {DATE}" for row in drawn("R", 1000)]
     return asked
 
 
-def answered(served: Served, lines: Sequence[str]) -> Cost:
-    """What lines cost a server, with how many rows and identifiers it found as its text."""
-    start, used = time.monotonic(), processor_seconds(served.pid)
-    told = served.replies(lines)
-    if b"\nERR " in b"\n" + told:
-        raise SystemExit("%s: %r" % (lines[0], told[-TOLD:]))
-    cost = Cost(time.monotonic() - start, processor_seconds(served.pid) - used, served.held())
-    cost.text = str(sum(line.startswith(FOUND) for line in told.split(b"\n")))
+def answered(served: Served, *lines: str) -> Cost:
+    """What lines cost a server, which refuses none of them."""
+    cost = served.ask(lines)
+    if b"\nERR " in b"\n" + cost.output:
+        raise SystemExit("%s: %r" % (lines[0], cost.output[-TOLD:]))
     return cost
+
+
+def count_found(cost: Cost) -> str:
+    """How many rows and identifiers a server found."""
+    return str(sum(line.startswith(FOUND) for line in cost.output.split(b"\n")))
 
 
 class Measured:
@@ -97,53 +97,44 @@ class Measured:
 
     def __init__(self, program: str, place: Path, rows: int, layout: int,
                  names: Sequence[str]) -> None:
-        self.program, self.place, self.rows = program, place, rows
+        self.place, self.rows = place, rows
         self.title = f"layout {layout}, segments: {len(names)}"
-        empty = Sctd(program, str(place), "empty.store", layout)
-        self.ground = self.run("status", "--store", empty.path).peak or 0
+        self.ground = Sctd(program, str(place), "empty.store", layout).run("status").peak or 0
         self.sctd, self.copy = Sctd(program, str(place), layout=layout), place / "copy"
-        imports = [self.taken(name) for name in names]
+        imports = [self.sctd.take(name) for name in names]
         if len(imports) == 1:
-            self.show("import the Full release", imports[0])
+            self.show("import the Full release", imports[0], imports[0].text)
 
-    def run(self, *words: str) -> Cost:
-        return timed([self.program, *words])
-
-    def taken(self, name: str) -> Cost:
-        """The import of a release, by a process."""
-        return self.run("import", "--quiet", "--store", self.sctd.path, "--releases",
-                        str(self.place), name)
-
-    def show(self, work: str, cost: Cost) -> None:
+    def show(self, work: str, cost: Cost, told: str = "") -> None:
         held = "%.0f" % ((cost.peak - self.ground) / self.rows) if cost.peak else ""
-        seconds = ("%.2f" % (one * MILLISECONDS) for one in (cost.used, cost.wall))
-        print_row(self.rows, self.title, work, *seconds, held, cost.text)
+        seconds = ("%.2f" % (one * MS) for one in (cost.used, cost.wall))
+        print_row(self.rows, self.title, work, *seconds, held, told)
 
     def read(self, digest: str) -> None:
         """Opens, copies and digests it, by turns."""
-        store = ("--store", self.sctd.path)
-        works = {"open": ("status", *store), "copy": ("copy", *store, "--to", str(self.copy)),
-                 "digest": ("digest", *store)}
+        works = {"open": ("status",), "copy": ("copy", "--to", str(self.copy)),
+                 "digest": ("digest",)}
         costs: dict[str, list[Cost]] = {work: [] for work in works}
         for _ in range(TIMES):
             for work, words in works.items():
-                costs[work].append(self.run(*words))
+                costs[work].append(self.sctd.run(*words))
                 self.copy.unlink(missing_ok=True)
         for work, found in costs.items():
-            self.show(work, least(found))
-        if costs["digest"][0].text != "OK " + digest:
-            raise SystemExit("the digest is %r, and not %r" % (costs["digest"][0].text, digest))
+            self.show(work, least(found), found[-1].text)
+            if work == "digest" and found[-1].text != "OK " + digest:
+                raise SystemExit("the digest is %r, and not %r" % (found[-1].text, digest))
 
     def ask(self, asked: Mapping[str, Sequence[str]]) -> None:
         for title, lines in asked.items():
             served = self.sctd.served()
-            self.show(title, answered(served, lines))
+            cost = answered(served, *lines)
+            self.show(title, cost, count_found(cost))
             served.end()
 
     def on_a_copy(self, work: Callable[[Served], None]) -> None:
         """Does something with a server of a copy."""
         shutil.copyfile(self.sctd.path, self.copy)
-        served = Served(self.program, str(self.copy), str(self.place))
+        served = Served(self.sctd.program, str(self.copy), str(self.place))
         work(served)
         served.end()
         self.copy.unlink()
@@ -151,15 +142,15 @@ class Measured:
     def merge(self) -> None:
         """Merges its two segments."""
         def merged(served: Served) -> None:
-            begun = answered(served, ["0 MERGE"])
-            steps = [answered(served, [f"0 STEP {STEP}"]) for _ in range(0, self.rows + STEP, STEP)]
-            ended = answered(served, ["0 PUBLISH"])
+            begun = answered(served, "MERGE")
+            steps = [answered(served, f"STEP {STEP}") for _ in range(0, self.rows + STEP, STEP)]
+            ended = answered(served, "PUBLISH")
             used, wall = [step.used for step in steps], [step.wall for step in steps]
             self.show("a merge, in all", Cost(begun.wall + sum(wall) + ended.wall,
                                               begun.used + sum(used) + ended.used))
             self.show("a step: the median", Cost(statistics.median(wall), statistics.median(used)))
             self.show("a step: the longest", Cost(max(wall), max(used)))
-            self.show("PUBLISH", ended)
+            self.show("PUBLISH", ended, count_found(ended))
 
         self.on_a_copy(merged)
 
@@ -167,18 +158,20 @@ class Measured:
         """Imports the Delta, and the Full release over itself."""
         costs: list[Cost] = []
         for _ in range(DELTAS):
-            self.on_a_copy(lambda served: costs.append(answered(served, ["0 IMPORT delta"])))
+            self.on_a_copy(lambda served: costs.append(answered(served, "IMPORT delta")))
         costs.sort(key=lambda cost: cost.used)
-        self.show("a Delta of 100 rows, as a line: the least", costs[0])
-        self.show("a Delta of 100 rows, as a line: the most", costs[-1])
-        self.show("open, and import a Delta of 100 rows", self.taken("delta"))
-        self.show("import the Full release over itself", self.taken("full"))
+        self.show("a Delta of 100 rows, as a line: the least", costs[0], count_found(costs[0]))
+        self.show("a Delta of 100 rows, as a line: the most", costs[-1], count_found(costs[-1]))
+        for title, name in (("open, and import a Delta of 100 rows", "delta"),
+                            ("import the Full release over itself", "full")):
+            cost = self.sctd.take(name)
+            self.show(title, cost, cost.text)
 
 
 def measure(program: str, place: Path, rows: int, segments: Sequence[int]) -> None:
     made_release(str(place), rows)
     full = place / "full"
-    by_script, asked = timed([sys.executable, str(DIGEST), str(full)]), questions(full)
+    by_script, asked = ran([sys.executable, str(DIGEST), str(full)]), questions(full)
     for layout, count in ((2, 1), (3, 1), *((3, count) for count in segments)):
         names = ["full"] if count == 1 else dealt_out(place, count)
         measured = Measured(program, place, rows, layout, names)
@@ -188,16 +181,16 @@ def measure(program: str, place: Path, rows: int, segments: Sequence[int]) -> No
             measured.merge()
         if count < MOST:
             measured.change()
-    print_row(rows, "-", "`examples/digest.py`", "%.2f" % (by_script.used * MILLISECONDS),
-              "%.2f" % (by_script.wall * MILLISECONDS), (by_script.peak or 0) // rows, "")
+    print_row(rows, "-", "`examples/digest.py`", "%.2f" % (by_script.used * MS),
+              "%.2f" % (by_script.wall * MS), (by_script.peak or 0) // rows, "")
 
 
 def main() -> int:
-    asked = asked_for(__doc__, (ROWS, MANY_ROWS), needs_time=True)
+    asked = asked_for(__doc__, ROWS, MANY_ROWS)
     print_head(*HEAD)
     for rows in asked.rows:
         more = MANY_SEGMENTS if rows == min(asked.rows) else ()
-        measure(asked.program, Path(asked.folder).resolve() / str(rows), rows, SEGMENTS + more)
+        measure(asked.program, Path(asked.folder, str(rows)), rows, SEGMENTS + more)
     return 0
 
 

@@ -8,10 +8,11 @@ of the latest releases' days, so that nothing of it is remembered; the last row 
 """
 
 import argparse
+import http.client
 import json
+import socket
 import statistics
 import sys
-import tempfile
 import time
 from collections.abc import Callable, Mapping, Sequence
 from functools import partial
@@ -21,12 +22,14 @@ from typing import NamedTuple, Self
 from urllib.parse import urlencode
 
 import make_release as rf2
-from measure_clients import (
-    MS, UnixHttp, begin_gateway, begin_hub, concepts, make_store, options_of)
-from measure_harness import MANY_ROWS, child_of, made_release, print_head, print_row
-from measure_harness import processor_seconds
-from harness import tell
-from proxy_harness import Process, need, stop  # measure_clients.py looks for it.
+from measure_harness import (
+    MANY_ROWS, MS, child_of, column_of, made_release, make_store, options_of, print_head,
+    print_row, processor_seconds)
+
+sys.path.append(str(Path(__file__).resolve().parents[1] / "trials"))
+from harness import tell  # noqa: E402
+from proxy_harness import (  # noqa: E402
+    Process, gateway_words, hub_words, need, open_folder, ready, stop)
 
 SCT = "http://snomed.info/sct"
 DAYS = 7
@@ -54,13 +57,26 @@ class Taken(NamedTuple):
     total: str
 
 
+class UnixHttp(http.client.HTTPConnection):
+    """HTTP over a Unix socket."""
+
+    def __init__(self, path: str) -> None:
+        super().__init__("x")
+        self.path = path
+
+    def connect(self) -> None:
+        self.sock = socket.socket(socket.AF_UNIX)
+        self.sock.connect(self.path)
+
+
 class Asked:
     """A gateway that was just started, and is asked for the sizes of sets."""
 
-    def __init__(self, hub: Process, hub_socket: str, options: argparse.Namespace) -> None:
-        place = str(Path(hub_socket).with_name("http"))
-        self.gateway = begin_gateway(options, hub_socket, place)
-        self.client = UnixHttp(place)
+    def __init__(self, hub: Process, place: Path) -> None:
+        path, language = str(place / "http"), str(rf2.US_ENGLISH)
+        words = gateway_words(place / "hub", path, "--languages", language)
+        self.gateway = ready(words, place / "log")
+        self.client = UnixHttp(path)
         self.pids = [self.gateway.pid, hub.pid, child_of(hub.pid)]
 
     def __enter__(self) -> Self:
@@ -141,24 +157,23 @@ def measured(begin: Callable[[], Asked], codes: Sequence[str], dates: Sequence[s
 
 def tried(options: argparse.Namespace) -> None:
     need()
-    with tempfile.TemporaryDirectory() as folder:
-        store, hub_socket = str(Path(folder, "store")), str(Path(folder, "hub"))
-        made_release(folder, options.rows, is_package=True)
-        add_attributes(Path(folder))
-        make_store(options, folder, store)
-        codes = sorted(concepts(folder), key=int)
-        hub = begin_hub(options, folder, store, hub_socket)
+    with open_folder() as place:
+        made_release(str(place), options.rows, is_package=True)
+        add_attributes(place)
+        make_store(options.program, place, place / "store", options.rows, is_package=True)
+        codes = sorted(set(column_of(place, "C", "id")), key=int)
+        words = hub_words(options.program, place / "store", place, "--socket", str(place / "hub"))
+        hub = ready(words, place / "log")
         days = rf2.DATES[-options.days :]
         dates = ["%s-%s-%s" % (day[:4], day[4:6], day[6:]) for day in days]
         try:
-            measured(partial(Asked, hub, hub_socket, options), codes, dates)
+            measured(partial(Asked, hub, place), codes, dates)
         finally:
             stop(hub)
 
 
 def main() -> int:
-    options = options_of(__doc__, rows=MANY_ROWS, days=DAYS).parse_args()
-    options.package = True
+    options = options_of(__doc__, rows=MANY_ROWS, days=DAYS)
     return tell(lambda: tried(options))
 
 

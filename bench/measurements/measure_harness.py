@@ -10,11 +10,11 @@ import tempfile
 import threading
 import time
 from collections.abc import Callable, Sequence
-from dataclasses import dataclass
 from pathlib import Path
-from typing import Optional
+from typing import NamedTuple, Optional
 
-MAKER = os.path.join(os.path.dirname(os.path.abspath(__file__)), "make_release.py")
+import make_release as rf2
+
 KILOBYTE = 1024
 # How much of what a process wrote is told where it fails.
 TOLD = 200
@@ -22,24 +22,31 @@ TOLD = 200
 ROWS, MANY_ROWS = 235_000, 2_350_000
 GNU_TIME = shutil.which("time")
 NANOSECONDS = 1e9
+# Milliseconds of a second.
+MS = 1e3
 STORE = "compared.store"
+# How the lines of a reply begin that stand before its last one.
+ROW_LINES = (b"ROW ", b"ID ", b"DATE ")
 
 
-@dataclass
-class Cost:
+class Cost(NamedTuple):
     """Wall and processor seconds, the greatest resident size in bytes, where that is known, and
-    what was printed, if it is told."""
+    what was printed."""
 
     wall: float
     used: float
     peak: Optional[int] = None
-    text: str = ""
+    output: bytes = b""
+
+    @property
+    def text(self) -> str:
+        return self.output.decode().strip()
 
 
 def least(costs: Sequence[Cost]) -> Cost:
     """The least of each, and what the last one printed."""
     return Cost(min(cost.wall for cost in costs), min(cost.used for cost in costs),
-                min(cost.peak or 0 for cost in costs), costs[-1].text)
+                min(cost.peak or 0 for cost in costs), costs[-1].output)
 
 
 def absolute(path: str) -> str:
@@ -47,36 +54,55 @@ def absolute(path: str) -> str:
     return os.path.abspath(path)
 
 
-def asked_for(doc: str | None, usual: Sequence[int], needs_time: bool = False
-              ) -> argparse.Namespace:
+def options_of(doc: str | None, **numbers: int) -> argparse.Namespace:
+    """The words of a measurement: a program, and numbers with their usual values."""
+    parser = argparse.ArgumentParser(description=(doc or "").partition("\n")[0])
+    parser.add_argument("program", type=absolute)
+    for name, usual in numbers.items():
+        parser.add_argument("--" + name, type=int, default=usual)
+    return parser.parse_args()
+
+
+def asked_for(doc: str | None, *usual: int) -> argparse.Namespace:
     """The words of a measurement: a program, a folder and how many rows there are."""
     parser = argparse.ArgumentParser(description=(doc or "").partition("\n")[0])
     parser.add_argument("program", type=absolute)
-    parser.add_argument("folder")
+    parser.add_argument("folder", type=absolute)
     parser.add_argument("rows", type=int, nargs="*", default=usual)
-    if needs_time and GNU_TIME is None:
+    if GNU_TIME is None:
         parser.error("there is no GNU time")
     return parser.parse_args()
 
 
-def made_release(place: str, rows: int, seed: int = 1, is_package: bool = False) -> None:
-    """Makes the releases of make_release.py in a folder, unless they are there. A process of its
-    own does it, so that their rows don't count in the peak of this one."""
+def made_release(place: str, rows: int, is_package: bool = False) -> None:
+    """Makes the releases of make_release.py in a folder, unless they are there."""
     if not os.path.isdir(os.path.join(place, "full")):
-        words = [*["--package"] * is_package, place, str(rows), str(seed)]
-        subprocess.run([sys.executable, MAKER, *words], stdout=subprocess.DEVNULL, check=True)
+        rf2.make(place, rows, is_package=is_package)
 
 
-def compared_by(script: str, doc: str | None, head: Sequence[str],
-                compare: Callable[[str, str, int], bool]) -> int:
-    """Compares releases of so many rows, as the words of a script say, each in a process of its
-    own, so that a peak is that of one; the worst status."""
-    asked = asked_for(doc, (ROWS,))
-    if len(asked.rows) > 1:
-        words = [sys.executable, os.path.abspath(script), asked.program, asked.folder]
-        return max(subprocess.call([*words, str(rows)]) for rows in asked.rows)
+def make_store(program: str, place: Path, store: Path, rows: int, is_package: bool = False
+               ) -> None:
+    """A store with a made release."""
+    made_release(str(place), rows, is_package)
+    for words in ("init",), ("import", "--quiet", str(place / "full")):
+        subprocess.run([program, *words, "--store", str(store)], check=True,
+                       stdout=subprocess.DEVNULL)
+
+
+def column_of(place: Path, sort: str, column: str) -> list[str]:
+    """What the rows of a sort have in a column, in a made Full release."""
+    at = rf2.SORTS[sort].columns.split(" ").index(column)
+    return [row[at] for row in rf2.rows_of(place / "full", sort)]
+
+
+def compared_by(doc: str | None, head: Sequence[str], compare: Callable[[str, str, int], bool]
+                ) -> int:
+    """Compares releases of so many rows, as the words of a script say: 1 where something isn't the
+    same."""
+    asked = asked_for(doc, ROWS)
     print_head(*head)
-    return 0 if compare(asked.program, asked.folder, asked.rows[0]) else 1
+    found = [compare(asked.program, asked.folder, rows) for rows in asked.rows]
+    return 0 if all(found) else 1
 
 
 def print_row(*cells: object, behind: str = "") -> None:
@@ -89,39 +115,24 @@ def print_head(*columns: str) -> None:
     print("|" + "---|" * len(columns), flush=True)
 
 
-def ran(words: Sequence[str], given: bytes, place: str) -> tuple[bytes, Cost]:
-    """What a process writes for its input, and what it cost. Its streams are files of a folder."""
-    given_to, written_to = (os.path.join(place, name) for name in ("given", "written"))
-    Path(given_to).write_bytes(given)
-    start = time.monotonic()
-    with open(given_to, "rb") as lines, open(written_to, "wb") as written:
-        child = subprocess.Popen(words, stdin=lines, stdout=written)
+def ran(words: Sequence[str], given: bytes = b"") -> Cost:
+    """What a process writes for its input, and what it cost. GNU time starts it: a process counts
+    what its starter held at that moment as its own, and GNU time holds little."""
+    with tempfile.TemporaryDirectory() as place, tempfile.TemporaryFile() as lines, \
+            tempfile.TemporaryFile() as written:
+        lines.write(given)
+        lines.seek(0)
+        peak, start = Path(place, "peak"), time.monotonic()
+        child = subprocess.Popen([GNU_TIME or "time", "-f", "%M", "-o", peak, *words],
+                                 stdin=lines, stdout=written, stderr=subprocess.DEVNULL)
         _, status, usage = os.wait4(child.pid, 0)
-        child.returncode = status
-    wall, output = time.monotonic() - start, Path(written_to).read_bytes()
-    if status != 0:
-        raise SystemExit("%s: status %d: %r" % (" ".join(words[:2]), status, output[:TOLD]))
-    return output, Cost(wall, usage.ru_utime + usage.ru_stime, usage.ru_maxrss * KILOBYTE)
-
-
-def timed(words: Sequence[str]) -> Cost:
-    """What a process cost, which GNU time starts: a process counts what its starter held at that
-    moment as its own, and GNU time holds little."""
-    with tempfile.TemporaryDirectory() as place:
-        peak = os.path.join(place, "peak")
-        start = time.monotonic()
-        child = subprocess.Popen(
-            [GNU_TIME or "time", "-f", "%M", "-o", peak, *words], stdin=subprocess.DEVNULL,
-            stdout=subprocess.PIPE, stderr=subprocess.DEVNULL)
-        assert child.stdout
-        text = child.stdout.read().decode().strip()
-        _, status, usage = os.wait4(child.pid, 0)
-        wall = time.monotonic() - start
-        child.returncode = os.waitstatus_to_exitcode(status)
+        wall, child.returncode = time.monotonic() - start, os.waitstatus_to_exitcode(status)
+        written.seek(0)
+        output = written.read()
         if status != 0:
-            raise SystemExit("failed: %s: %s" % (" ".join(words), text[:TOLD]))
-        kilobytes = int(Path(peak).read_text(encoding="ascii"))
-        return Cost(wall, usage.ru_utime + usage.ru_stime, kilobytes * KILOBYTE, text)
+            raise SystemExit("failed: %s: %r" % (" ".join(words), output[:TOLD]))
+        kilobytes = int(peak.read_text(encoding="ascii"))
+        return Cost(wall, usage.ru_utime + usage.ru_stime, kilobytes * KILOBYTE, output)
 
 
 def child_of(pid: int) -> int:
@@ -151,11 +162,11 @@ class Sctd:
         Path(self.path).unlink(missing_ok=True)
         self.run("init", "--layout", str(layout))
 
-    def run(self, command: str, *words: str) -> tuple[bytes, Cost]:
+    def run(self, command: str, *words: str) -> Cost:
         """What the program writes, and what that cost."""
-        return ran([self.program, command, "--store", self.path, *words], b"", self.place)
+        return ran([self.program, command, "--store", self.path, *words])
 
-    def take(self, name: str) -> tuple[bytes, Cost]:
+    def take(self, name: str) -> Cost:
         """Imports the release of this name."""
         return self.run("import", "--quiet", "--releases", self.place, name)
 
@@ -174,7 +185,7 @@ class Served:
             stdin=subprocess.PIPE, stdout=subprocess.PIPE)
         assert self.child.stdin and self.child.stdout
         self.input, self.output, self.pid = self.child.stdin, self.child.stdout, self.child.pid
-        self.replies(["0 STATUS"])
+        self.ask(["STATUS"])
         self.opening = Cost(time.monotonic() - start, seconds_used(self.pid), self.held())
 
     def held(self) -> int:
@@ -182,9 +193,11 @@ class Served:
         words = Path("/proc/%d/statm" % self.pid).read_text("ascii").split()
         return int(words[1]) * os.sysconf("SC_PAGE_SIZE")
 
-    def replies(self, lines: Sequence[str]) -> bytes:
-        """What it writes for lines. They are sent beside the reading, since it answers at once."""
-        text = "".join(line + "\n" for line in lines).encode()
+    def ask(self, lines: Sequence[str]) -> Cost:
+        """What it writes for lines, with what that cost, and what it holds then. They are sent
+        beside the reading, since it answers at once."""
+        text = "".join("0 %s\n" % line for line in lines).encode()
+        start, used = time.monotonic(), processor_seconds(self.pid)
         sender = threading.Thread(target=self.send, args=(text,))
         sender.start()
         told: list[bytes] = []
@@ -194,23 +207,14 @@ class Served:
             if not piece:
                 raise SystemExit("sctd ended with %d replies to come" % left)
             told.append(piece)
-            left -= not piece.startswith((b"ROW ", b"ID ", b"DATE "))
+            left -= not piece.startswith(ROW_LINES)
         sender.join()
-        return b"".join(told)
+        used = processor_seconds(self.pid) - used
+        return Cost(time.monotonic() - start, used, self.held(), b"".join(told))
 
     def send(self, text: bytes) -> None:
         self.input.write(text)
         self.input.flush()
-
-    def used(self) -> float:
-        """How many seconds of the processor it has used."""
-        return processor_seconds(self.pid)
-
-    def timed(self, lines: Sequence[str]) -> tuple[bytes, Cost]:
-        """What it writes, with what it cost."""
-        start, used = time.monotonic(), seconds_used(self.pid)
-        told = self.replies(lines)
-        return told, Cost(time.monotonic() - start, seconds_used(self.pid) - used)
 
     def end(self) -> None:
         self.input.close()

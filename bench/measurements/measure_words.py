@@ -7,8 +7,8 @@ of them; SQLite has an FTS5 table for that with prefix indexes of one, two and t
 Sources are asked by a relationship's type and destination, for which SQLite has an index. Each
 question is asked alone, both sides have to give the same identifiers, and what is told is their
 time of the processor in milliseconds. SQLite answers in this process, and keeps in memory what it
-likes. Then all rows of each kind are read in pages. Last, the
-store is opened with words and without.
+likes. Then all rows of each kind are read in pages. Last, the store is opened with words and
+without.
 """
 
 import os
@@ -18,11 +18,11 @@ import sqlite3
 import statistics
 import sys
 import time
-from collections.abc import Callable, Iterable, Sequence
-from pathlib import Path
+from collections.abc import Iterable, Sequence
 
 import make_release as rf2
-from measure_harness import Sctd, Served, compared_by, made_release, print_row
+from compare_shell import Shell, newest
+from measure_harness import MS, ROW_LINES, Sctd, Served, compared_by, made_release, print_row
 
 # How many words are asked for, and of how many letters each.
 SHAPES = ((1, 1), (1, 3), (2, 2), (2, 3), (3, 3), (4, 2))
@@ -32,52 +32,40 @@ SEARCHES, LIMIT, PAGE = 200, 30, 1_000
 CACHE = 2_000_000
 SEED = 7
 OPENINGS = 3
-MILLISECONDS, MICROSECONDS, MILLION = 1e3, 1e6, 1e6
+MICROSECONDS, MILLION = 1e6, 1e6
 HEAD = ("Rows", "Work", "sctd: median", "95 %", "SQLite: median", "95 %", "median, SQLite / sctd")
-TABLES = (
-    "PRAGMA cache_size = -%d" % CACHE,
-    "PRAGMA synchronous = OFF",
-    "CREATE TABLE D (number INTEGER PRIMARY KEY, id INTEGER, day INTEGER, active INTEGER,"
-    " term TEXT)",
-    "CREATE VIRTUAL TABLE words USING fts5 (term, content = '', prefix = '1 2 3',"
-    " tokenize = 'unicode61 remove_diacritics 2')",
-    "CREATE TABLE R (id INTEGER, day INTEGER, active INTEGER, source INTEGER,"
-    " destination INTEGER, type INTEGER, PRIMARY KEY (id, day)) WITHOUT ROWID")
-INDEXES = (
-    "CREATE INDEX versions ON D (id, day)",
-    "CREATE INDEX sources ON R (destination, type, source) WHERE active = 1",
-    "INSERT INTO words (rowid, term) SELECT number, term FROM D",
-    "INSERT INTO words (words) VALUES ('optimize')",
-    "ANALYZE")
-NEWEST = ("x.active = 1 AND x.day <= :date AND NOT EXISTS (SELECT 1 FROM {0} y WHERE y.id = x.id"
-          " AND y.day > x.day AND y.day <= :date)")
-FOUND = ("SELECT x.id FROM words JOIN D x ON x.number = words.rowid WHERE words MATCH :words AND "
-         + NEWEST.format("D") + " ORDER BY length(x.term), x.id LIMIT :limit")
-SOURCES = ("SELECT DISTINCT x.source FROM R x WHERE x.destination = :concept AND x.type = :type"
-           " AND " + NEWEST.format("R") + " ORDER BY x.source LIMIT :limit")
+# Of the table of descriptions one whose rows have numbers, by which they are found in the words.
+WORDS = """
+PRAGMA cache_size = -%d;
+CREATE TABLE T (number INTEGER PRIMARY KEY, id INTEGER, effectiveTime INTEGER, active INTEGER,
+    term TEXT);
+INSERT INTO T (id, effectiveTime, active, term) SELECT id, effectiveTime, active, term FROM D;
+CREATE VIRTUAL TABLE words USING fts5 (term, content = '', prefix = '1 2 3',
+    tokenize = 'unicode61 remove_diacritics 2');
+CREATE INDEX versions ON T (id, effectiveTime);
+CREATE INDEX sources ON R (destinationId, typeId, sourceId) WHERE active = 1;
+INSERT INTO words (rowid, term) SELECT number, term FROM T;
+INSERT INTO words (words) VALUES ('optimize');
+ANALYZE;
+""" % CACHE
+FOUND = ("SELECT x.id FROM words JOIN T x ON x.number = words.rowid WHERE words MATCH :words AND"
+         " x.active = 1" + newest("T", ":date") + " ORDER BY length(x.term), x.id LIMIT :limit")
+SOURCES = ("SELECT DISTINCT x.sourceId FROM R x WHERE x.destinationId = :concept AND"
+           " x.typeId = :type AND x.active = 1" + newest("R", ":date")
+           + " ORDER BY x.sourceId LIMIT :limit")
 # A word in SQLite's way: made terms have no other characters than these.
 WORD = re.compile(r"[^\W_]+")
 
 # A question as a line of the protocol, and what SQLite is asked: the query and its values.
 Question = tuple[str, str, dict[str, object]]
-Ids = list[int]
 
 
 def sqlite_of(place: str) -> sqlite3.Connection:
     """A database of a release's descriptions and relationships, with its indexes."""
-    path = Path(place, "words.sqlite")
-    path.unlink(missing_ok=True)
-    full = os.path.join(place, "full")
-    base = sqlite3.connect(path)
-    for statement in TABLES:
-        base.execute(statement)
-    base.executemany("INSERT INTO D (id, day, active, term) VALUES (?, ?, ?, ?)",
-                     ((row[0], row[1], row[2], row[7]) for row in rf2.rows_of(full, "D")))
-    base.executemany("INSERT INTO R VALUES (?, ?, ?, ?, ?, ?)", (
-        (row[0], row[1], row[2], row[4], row[5], row[7]) for row in rf2.rows_of(full, "R")))
-    for statement in INDEXES:
-        base.execute(statement)
-    base.commit()
+    shell = Shell(place, "words.sqlite", ("D", "R"))
+    shell.take("full")
+    base = sqlite3.connect(shell.path)
+    base.executescript(WORDS)
     return base
 
 
@@ -97,22 +85,16 @@ def source(row: Sequence[str], date: str) -> Question:
             {"date": int(date), "concept": int(row[5]), "type": int(row[7]), "limit": PAGE})
 
 
-def ids_of(told: bytes) -> Ids:
+def ids_of(told: bytes) -> list[int]:
     """The identifiers of a reply's rows."""
-    lines = (line for line in told.split(b"\n") if line.startswith((b"ROW ", b"ID ")))
+    lines = (line for line in told.split(b"\n") if line.startswith(ROW_LINES))
     return [int(line.partition(b" ")[2].partition(b"\t")[0]) for line in lines]
-
-
-def timed(clock: Callable[[], float], work: Callable[[], Ids]) -> tuple[Ids, float]:
-    start = clock()
-    told = work()
-    return told, clock() - start
 
 
 def spread(times: Sequence[float]) -> tuple[float, float]:
     """The median and what 95 of 100 don't exceed, in milliseconds."""
-    return (statistics.median(times) * MILLISECONDS,
-            statistics.quantiles(times, n=20)[-1] * MILLISECONDS)
+    return (statistics.median(times) * MS,
+            statistics.quantiles(times, n=20)[-1] * MS)
 
 
 def ask(rows: int, served: Served, base: sqlite3.Connection, title: str,
@@ -123,12 +105,12 @@ def ask(rows: int, served: Served, base: sqlite3.Connection, title: str,
     theirs: list[float] = []
     alike = True
     for line, query, values in asked:
-        told, used = timed(served.used, lambda: ids_of(served.replies(["0 " + line])))
-        ours.append(used)
-        found, used = timed(time.thread_time,
-                            lambda: [row[0] for row in base.execute(query, values)])
-        theirs.append(used)
-        alike = alike and told == found
+        cost = served.ask([line])
+        ours.append(cost.used)
+        start = time.thread_time()
+        found = [row[0] for row in base.execute(query, values)]
+        theirs.append(time.thread_time() - start)
+        alike = alike and ids_of(cost.output) == found
     own, other = spread(ours), spread(theirs)
     print_row(rows, title, *("%.3f" % time for time in (*own, *other)),
               "%.1f" % (other[0] / own[0]), behind="" if alike else " NOT the same")
@@ -137,17 +119,17 @@ def ask(rows: int, served: Served, base: sqlite3.Connection, title: str,
 
 def read_all(rows: int, served: Served) -> None:
     """Reads the rows of each kind in pages, and tells what a row cost the processor."""
-    start = served.used()
-    count = 0
+    used, count = 0.0, 0
     for kind in rf2.KINDS:
         key = "- -"
         while key:
-            told = served.replies(["0 ROWS %s %s %d" % (kind, key, PAGE)]).split(b"\n")[:-2]
+            cost = served.ask(["ROWS %s %s %d" % (kind, key, PAGE)])
+            told, used = cost.output.split(b"\n")[:-2], used + cost.used
             count += len(told)
             columns = told[-1].split(b" ", 1)[1].split(b"\t") if len(told) == PAGE else []
             key = b" ".join(columns[:2]).decode()
-    cost = (served.used() - start) / count * MICROSECONDS
-    print_row(rows, "ROWS of everything, µs a row", "%.2f" % cost, "", "", "", "")
+    print_row(rows, "ROWS of everything, µs a row", "%.2f" % (used / count * MICROSECONDS),
+              "", "", "", "")
 
 
 def open_both(rows: int, sctd: Sctd) -> None:
@@ -188,4 +170,4 @@ def compare(program: str, folder: str, count: int) -> bool:
 
 
 if __name__ == "__main__":
-    sys.exit(compared_by(__file__, __doc__, HEAD, compare))
+    sys.exit(compared_by(__doc__, HEAD, compare))

@@ -19,11 +19,14 @@ import argparse
 import os
 import re
 import sys
-from collections.abc import Callable, Collection, Sequence
-from typing import Optional, Union
+from collections.abc import Callable
 
-from source import TOP, Found, Item, Node, OfType, Project, RustModule, Word, names_in
+from source import TOP, Found, Item, Node, Project, RustModule, Word, names_in
 from source import parts_of_impl, tell
+
+TYPES = ("struct", "enum")
+# The members of a Model that say what value a type has.
+OF_VALUE = ("Value", "view", "inverse")
 
 
 def is_private_name(module: str) -> bool:
@@ -38,7 +41,7 @@ class Reached(Project):
         super().__init__()
         self.public: set[Item] = set()
         # By what each node is reached: another one, or a public contract.
-        self.why: dict[Node, Union[Node, str]] = {}
+        self.why: dict[Node, Node | str] = {}
         self.left: list[Node] = []
         for crate in self.crates.values():
             self.take_exports(crate.root, set())
@@ -65,110 +68,106 @@ class Reached(Project):
 
     # ---- what is reached
 
-    def reach(self, node: Optional[Node], by: Union[Node, str]) -> None:
-        if node and node not in self.why:
+    def reach(self, node: Node, by: Node | str) -> None:
+        if node not in self.why:
             self.why[node] = by
             self.left.append(node)
 
-    def reach_terms(self, clauses: Sequence[tuple[str, str]], module: RustModule,
-                    holders: Sequence[Item], by: str, hidden: Collection[str] = (),
-                    is_member: bool = False) -> None:
-        """Reaches what clauses cite, which stand in these items of a module."""
-        scope = self.scope_within(module, holders)
-        for name, text in clauses:
-            said = "%s · %s" % (by, name)
+    def reach_clauses(self, item: Item, holder: Item | None, by: str,
+                      hidden: frozenset[str] = frozenset()) -> None:
+        """Reaches what the clauses of an item cite, which stands in a holder or in none. `hidden`
+        are names that mean something else there, as do the ghost members of a trait."""
+        scope = self.scope_within(item.module, holder)
+        if holder and holder.sort == "trait":
+            hidden |= {it.name for it in holder.items if it.sort == "ghost"}
+        for name, text in item.clauses:
+            said = f"{by} · {name}"
             for node in self.cited(text, scope, hidden):
-                if not (is_member and self.is_proof(node)):
+                if not (item.sort == "ghost" and holder and self.is_proof(node)):
                     self.reach(node, said)
             for parts in names_in(text):
-                item = self.resolve(module, parts[:1]) if parts[0] not in scope else None
-                if isinstance(item, Item) and item.sort in ("struct", "enum"):
-                    self.reach(OfType(item.module.crate, item), said)
+                found = self.resolve(item.module, parts[:1]) if parts[0] not in scope else None
+                if isinstance(found, Item) and found.sort in TYPES:
+                    self.reach(found, said)
 
     def is_proof(self, node: Node) -> bool:
         """Whether it is a word whose body is shut."""
-        return not isinstance(node, OfType) and self.words[node].is_proof
+        return not isinstance(node, Item) and self.words[node].is_proof
 
-    def reach_function(self, item: Item, module: RustModule, holders: Sequence[Item],
-                       by: str) -> None:
+    def reach_function(self, item: Item, by: str) -> None:
         inside = item.head[item.head.find("("):]
-        hidden = set(re.findall(r"(?:\(|,)\s*(?:mut )?(\w+)\s*:", inside)) | {"result", "self"}
-        for holder in holders:
-            if holder.sort == "trait":
-                hidden |= {i.name for i in holder.items if i.sort == "ghost"}
-        self.reach_terms(item.clauses, module, holders, by, hidden)
+        own = re.findall(r"(?:\(|,)\s*(?:mut )?(\w+)\s*:", inside)
+        self.reach_clauses(item, item.holder, by, frozenset(own) | {"result", "self"})
 
-    def reach_members(self, holder: Item, module: RustModule, by: str,
-                      is_wanted: Callable[[Item], bool]) -> None:
+    def reach_members(self, holder: Item, by: str, is_wanted: Callable[[Item], bool]) -> None:
         """Reaches what the members of a trait or an impl cite."""
-        for item in holder.items:
-            if item.sort == "fn" and is_wanted(item):
-                self.reach_function(item, module, [holder], by + "::" + item.name)
-            elif item.sort == "ghost" and is_wanted(item):
-                is_trait = holder.sort == "trait"
-                hidden = {i.name for i in holder.items if is_trait and i.sort == "ghost"}
-                self.reach_terms(item.clauses, module, [holder], by, hidden, True)
+        for item in filter(is_wanted, holder.items):
+            if item.sort == "fn":
+                self.reach_function(item, f"{by}::{item.name}")
+            elif item.sort == "ghost":
+                self.reach_clauses(item, holder, by)
 
     def reach_public(self) -> None:
         """Reaches what public functions, traits, types and impls cite."""
-        for item in sorted(self.public, key=lambda i: (i.module.crate, i.name)):
-            by = item.module.crate + "::" + item.name
+        for item in sorted(self.public, key=lambda it: (it.module.crate, it.name)):
+            by = f"{item.module.crate}::{item.name}"
             if item.sort == "fn":
-                self.reach_function(item, item.module, [], by)
+                self.reach_function(item, by)
             elif item.sort == "trait":
-                self.reach_members(item, item.module, by, lambda member: True)
-            elif item.sort in ("struct", "enum"):
-                self.reach(OfType(item.module.crate, item), by)
-                self.reach_terms([c for i in item.items for c in i.clauses], item.module, [], by)
-        for module, item in self.impls:
-            self.reach_impl(module, item)
+                self.reach_members(item, by, lambda member: True)
+            elif item.sort in TYPES:
+                self.reach(item, by)
+                for field in item.items:
+                    self.reach_clauses(field, None, by)
+        for impl in self.impls:
+            self.reach_impl(impl)
 
-    def reach_impl(self, module: RustModule, item: Item) -> None:
+    def reach_impl(self, impl: Item) -> None:
         """Reaches what an impl cites, if it is one for a public type, of a public trait."""
-        trait, made = parts_of_impl(item.head)
-        types = list(self.types_in(module, made.split("<")[0]))
-        front = list(self.types_in(module, trait))
-        by = module.crate + "::" + re.sub(r"(?s)[^&\w'].*", "", made.split("::")[-1].strip())
-        if not all(t in self.public for t in types + front):
+        trait, made = parts_of_impl(impl.head)
+        types = list(self.types_in(impl.module, made.split("<")[0]))
+        front = list(self.types_in(impl.module, trait))
+        name = re.sub(r"(?s)[^&\w'].*", "", made.split("::")[-1].strip())
+        by = f"{impl.module.crate}::{name}"
+        if not all(it in self.public for it in types + front):
             return
         if not trait:
-            self.reach_members(item, module, by, lambda m: m.sort == "fn" and m.is_open)
+            self.reach_members(impl, by, lambda it: it.sort == "fn" and it.is_open)
         elif trait.split("::")[-1] != "Model" or types:
-            self.reach_members(item, module, trait + " for " + by, lambda m: True)
+            self.reach_members(impl, f"{trait} for {by}", lambda member: True)
 
     def follow(self, node: Node) -> None:
         """Reaches what a node that is reached cites itself."""
-        if isinstance(node, OfType):
+        if isinstance(node, Item):
             self.follow_type(node)
             return
         module = self.crates[node[0]].specs[node[1]]
         for cited in self.cited(self.words[node].text, self.scope_at(module)):
-            if (isinstance(cited, OfType) or cited[:2] != node[:2]
+            if (isinstance(cited, Item) or cited[:2] != node[:2]
                     or self.words[cited].line < self.words[node].line):
                 self.reach(cited, node)
 
-    def follow_type(self, node: OfType) -> None:
+    def follow_type(self, item: Item) -> None:
         """Reaches the types of the fields, and what the Model says of the value."""
-        item = node.item
         for found in self.types_in(item.module, item.head):
-            if found.sort in ("struct", "enum") and found is not item:
-                self.reach(OfType(found.module.crate, found), node)
-        for module, holder in self.impls:
-            trait, made = parts_of_impl(holder.head)
-            if module.crate == node.crate and trait.split("::")[-1] == "Model":
-                if item in self.types_in(module, made.split("<")[0]):
-                    self.reach_members(holder, module, self.said(node), is_of_value)
+            if found.sort in TYPES and found is not item:
+                self.reach(found, item)
+        for impl in self.impls:
+            trait, made = parts_of_impl(impl.head)
+            if impl.module.crate == item.module.crate and trait.split("::")[-1] == "Model":
+                if item in self.types_in(impl.module, made.split("<")[0]):
+                    self.reach_members(impl, self.said(item), lambda it: it.name in OF_VALUE)
 
     # ---- what is said
 
-    def said(self, node: Union[Node, str]) -> str:
+    def said(self, node: Node | str) -> str:
         if isinstance(node, str):
             return node
-        if isinstance(node, OfType):
-            return "%s::%s" % (node.crate, node.item.name)
+        if isinstance(node, Item):
+            return f"{node.module.crate}::{node.name}"
         return "%s.specs.%s.%s" % node
 
-    def path_to(self, node: Union[Node, str]) -> str:
+    def path_to(self, node: Node | str) -> str:
         """How a node is reached, from itself up to a public contract."""
         path = [self.said(node)]
         while not isinstance(node, str):
@@ -179,11 +178,6 @@ class Reached(Project):
     def is_wrong(self, word: Word, is_listing: bool) -> bool:
         is_reached = word.key in self.why
         return is_reached == is_private_name(word.module) and (is_reached or is_listing)
-
-
-def is_of_value(member: Item) -> bool:
-    """Whether a member of a Model says what value a type has."""
-    return member.name in ("Value", "view", "inverse")
 
 
 def main() -> int:

@@ -41,11 +41,10 @@ def shown_names() -> set[str]:
     """All edits, tests and cases."""
     found = {str(edit) for crate in grounds.tree().crates for edit in edits.all_edits(crate)}
     found.update(f"{TRANSCRIPTS}: {name}" for name in names_of_cases())
-    for crate, it in grounds.tree().crates.items():
-        for path in files_of(os.path.join(it.folder, edits.SRC), ".rt"):
-            found.update(f"{crate}::{item.name}" for item, _ in functions_of(read(path))
-                         if item.is_test)
-        for path in files_of(os.path.join(it.folder, "data", "cases"), ".txt"):
+    for crate, own in grounds.tree().crates.items():
+        for path in files_of(os.path.join(own.folder, edits.SRC), ".rt"):
+            found.update(f"{crate}::{it.name}" for it in functions_of(read(path)) if it.is_test)
+        for path in files_of(os.path.join(own.folder, "data", "cases"), ".txt"):
             found.update(f"{crate}: {name}" for name in CASE.findall(read(path)))
     return found
 

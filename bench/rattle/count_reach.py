@@ -17,12 +17,13 @@ import argparse
 import os
 import re
 import sys
-from typing import Any, Iterable, Iterator, NamedTuple, Optional
+from collections.abc import Iterable, Iterator
 
-from check_private import Reached
-from source import Item, OfType, Project, RustModule, crates_below, files_of, folder_of
+from check_private import TYPES, Reached
+from source import Item, Project, crates_below, files_of, folder_of
 from source import functions_in, parts_of_impl, read, without_comments
 
+IMPORT = "history_store::Store::import"
 # What README promises, and the calls through which it is kept.
 CONTRACTS = (
     ("promise 1 of README",
@@ -30,7 +31,7 @@ CONTRACTS = (
     ("`line_server::answer`", ("line_server::answer",)),
     ("`line_server::serve`", ("line_server::serve",)),
     ("`Store::open`", ("history_store::Store::open",)),
-    ("`Store::import`", ("history_store::Store::import",)))
+    ("`Store::import`", (IMPORT,)))
 
 METERS = re.compile(r"\b(?:bytes_read|other_calls|failures|failure_count|disk_faults|damages|work"
                     r"|call_count|raised_by|cap|faults)(?:_of)?\b|\w*Makes\w*Calls\b|\bCounts\w*"
@@ -49,56 +50,45 @@ STORE = "history_store/src"
 QUESTIONS = ("queries.rt", "key_order.rt")
 
 
-class Found(NamedTuple):
-    """A function, the module in which it stands, and the trait or impl around it."""
-
-    item: Item
-    module: RustModule
-    holders: list[Item]
-
-
 class Reach(Reached):
     """The words that some contracts reach."""
 
-    def __init__(self, names: tuple[str, ...]) -> None:
+    def __init__(self, *names: str) -> None:
         self.names = names
         super().__init__()
 
     def reach_public(self) -> None:
         """Reaches what the functions of these names cite."""
         for name in self.names:
-            found = self.function(name)
-            if found is None:
-                raise LookupError("no public function is called %s" % name)
-            self.reach_function(found.item, found.module, found.holders, name)
-            heads = " ".join(item.head for item in [found.item] + found.holders)
-            for named in set(self.types_in(found.module, heads)):
-                if named.sort in ("struct", "enum"):
-                    self.reach(OfType(named.module.crate, named), name)
+            function = self.function(name)
+            self.reach_function(function, name)
+            heads = " ".join(it.head for it in (function, function.holder) if it)
+            for named in set(self.types_in(function.module, heads)):
+                if named.sort in TYPES:
+                    self.reach(named, name)
                 # (A law takes nothing and answers nothing, and so calls nothing of a trait.)
-                elif named.sort == "trait" and not found.item.head.rstrip().endswith("()"):
-                    self.reach_members(named, named.module, name, lambda member: True)
+                elif named.sort == "trait" and not function.head.rstrip().endswith("()"):
+                    self.reach_members(named, name, lambda member: True)
 
-    def function(self, name: str) -> Optional[Found]:
+    def function(self, name: str) -> Item:
         """The public function, or the method of a public type, with this path."""
         crate, *path = name.split("::")
-        if crate not in self.crates or not path:
-            return None
-        item = self.resolve(self.crates[crate].root, path)
+        root = self.crates[crate].root if crate in self.crates and path else None
+        item = self.resolve(root, path) if root else None
         if isinstance(item, Item) and item.sort == "fn":
-            return Found(item, item.module, [])
-        owner = self.resolve(self.crates[crate].root, path[:-1]) if path[1:] else None
-        return self.method(owner, path[-1]) if isinstance(owner, Item) else None
+            return item
+        owner = self.resolve(root, path[:-1]) if root and path[1:] else None
+        for method in self.methods(owner) if isinstance(owner, Item) else ():
+            if method.name == path[-1]:
+                return method
+        raise LookupError(f"no public function is called {name}")
 
-    def method(self, owner: Item, name: str) -> Optional[Found]:
-        """The method of a type, in an impl without a trait."""
-        for module, impl in self.impls:
+    def methods(self, owner: Item) -> Iterator[Item]:
+        """The methods of a type, in impls without a trait."""
+        for impl in self.impls:
             trait, made = parts_of_impl(impl.head)
-            if not trait and owner in self.types_in(module, made.split("<")[0]):
-                for item in impl.items:
-                    if item.sort == "fn" and item.name == name:
-                        return Found(item, module, [impl])
-        return None
+            if not trait and owner in self.types_in(impl.module, made.split("<")[0]):
+                yield from (it for it in impl.items if it.sort == "fn")
 
 
 def reach_of(project: Reached) -> tuple[int, int]:
@@ -113,12 +103,9 @@ def product_crates() -> set[str]:
     return crates_below(PROGRAM) | {PROGRAM}
 
 
-def clauses_of(project: Project) -> Iterator[list[tuple[str, str]]]:
+def clauses_of(project: Project) -> list[list[tuple[str, str]]]:
     """The clauses of each function of product crates: the head of each clause, and its term."""
-    for name in product_crates():
-        for module in project.crates[name].root.all():
-            own = [item for item in module.items if item.sort != "mod"]
-            yield from (item.clauses for item, _ in functions_in(own) if not item.is_test)
+    return [it.clauses for crate in product_crates() for it in project.crates[crate].functions()]
 
 
 def is_meter(head: str, term: str) -> bool:
@@ -127,57 +114,49 @@ def is_meter(head: str, term: str) -> bool:
     return head.startswith("ensures") and bool(named)
 
 
+def texts_in(folder: str, crates: Iterable[str]) -> Iterator[str]:
+    """The files of a folder of these crates."""
+    for crate in crates:
+        for ending in (".rt", ".antt"):
+            yield from map(read, files_of(os.path.join(folder_of(crate), folder), ending))
+
+
 def lines_in(folder: str, crates: Iterable[str]) -> int:
-    """How many lines the files of a folder of these crates have."""
-    folders = [os.path.join(folder_of(crate), folder) for crate in crates]
-    return sum(read(path).count("\n") for it in folders for ending in (".rt", ".antt")
-               for path in files_of(it, ending))
+    return sum(text.count("\n") for text in texts_in(folder, crates))
 
 
 def files_that_name(pattern: re.Pattern[str], folder: str, crates: Iterable[str]) -> int:
     """How many files of a folder of these crates have the pattern outside of comments."""
-    paths = (path for crate in crates for ending in (".rt", ".antt")
-             for path in files_of(os.path.join(folder_of(crate), folder), ending))
-    texts = (without_comments(COMMENT.sub("", read(path))) for path in paths)
+    texts = (without_comments(COMMENT.sub("", text)) for text in texts_in(folder, crates))
     return sum(bool(pattern.search(text)) for text in texts)
 
 
-def ensured_by(name: str) -> int:
-    """How many clauses say what a function ensures."""
-    found = Reach((name,)).function(name)
-    assert found is not None
-    return sum(1 for head, _ in found.item.clauses if head.startswith("ensures"))
+def ensured_by(clauses: Iterable[tuple[str, str]]) -> int:
+    """How many of these clauses say what a function ensures."""
+    return sum(head.startswith("ensures") for head, _ in clauses)
 
 
-def rows() -> Iterator[tuple[str, Any]]:
+def rows() -> Iterator[tuple[str, tuple[int, ...]]]:
     """The rows of the table: what is counted, and its number or numbers."""
     for title, names in CONTRACTS:
-        yield "words and lines that %s reaches" % title, reach_of(Reach(names))
+        yield f"words and lines that {title} reaches", reach_of(Reach(*names))
     project = Reached()
     yield "public words, and their lines", reach_of(project)
-    every_crate = list(project.crates)
-    yield "lines of specs/", lines_in("specs", every_crate)
-    functions = list(clauses_of(project))
+    yield "lines of specs/", (lines_in("specs", project.crates),)
+    functions = clauses_of(project)
     clauses = [clause for function in functions for clause in function]
     yield "clauses that are meters, and clauses in all", (
-        sum(1 for clause in clauses if is_meter(*clause)), len(clauses))
-    most = max(
-        sum(1 for head, _ in function if head.startswith("ensures")) for function in functions)
+        sum(is_meter(*clause) for clause in clauses), len(clauses))
+    most = max(map(ensured_by, functions))
     yield "what `Store::import` ensures, and the function with most", (
-        ensured_by("history_store::Store::import"), most)
-    yield "lines of the store's questions in `%s`" % STORE, sum(
-        read(os.path.join(folder_of(STORE), name)).count("\n") for name in QUESTIONS)
+        ensured_by(Reach(IMPORT).function(IMPORT).clauses), most)
+    yield f"lines of the store's questions in `{STORE}`", (sum(
+        read(os.path.join(folder_of(STORE), name)).count("\n") for name in QUESTIONS),)
     yield "files of src/, specs/ and proofs/ in product crates that name a layout or a form", tuple(
         files_that_name(LAYOUTS, folder, product_crates())
         for folder in ("src", "specs", "proofs"))
-    yield "lines of src/ in product crates", lines_in("src", product_crates())
-    yield "lines of proofs/", lines_in("proofs", every_crate)
-
-
-def shown(counted: Any) -> str:
-    """A number, or numbers, as a cell of the table has them."""
-    numbers = counted if isinstance(counted, tuple) else (counted,)
-    return ", ".join("{:,}".format(number) for number in numbers)
+    yield "lines of src/ in product crates", (lines_in("src", product_crates()),)
+    yield "lines of proofs/", (lines_in("proofs", project.crates),)
 
 
 def main() -> int:
@@ -187,11 +166,11 @@ def main() -> int:
     names = parser.parse_args().names
     try:
         for name in names:
-            print("%s: %d words, %d lines" % ((name,) + reach_of(Reach((name,)))))
+            print("%s: %d words, %d lines" % (name, *reach_of(Reach(name))))
         if names[1:]:
-            print("together: %d words, %d lines" % reach_of(Reach(tuple(names))))
-        for title, counted in () if names else rows():
-            print(f"| {title} | {shown(counted)} |")
+            print("together: %d words, %d lines" % reach_of(Reach(*names)))
+        for title, numbers in () if names else rows():
+            print(f"| {title} | {', '.join(map('{:,}'.format, numbers))} |")
     except LookupError as error:
         print(error, file=sys.stderr)
         return 1

@@ -168,26 +168,24 @@ def checksum_of(edit: Edit) -> str:
         return hashlib.sha256(file.read()).hexdigest()
 
 
+def path_of_record(crate: str) -> str:
+    return os.path.join(folder_of(crate), RECORD)
+
+
 def write_record(crate: str, record: Record) -> None:
-    with open(os.path.join(folder_of(crate), RECORD), "w", encoding="utf-8") as file:
-        file.write(record.text())
-
-
-def remove_record(crate: str) -> None:
-    path = os.path.join(folder_of(crate), RECORD)
-    if os.path.exists(path):
-        os.remove(path)
-
-
-def record_in(text: str) -> Record | None:
-    """What the text of a record says; None where it is none."""
-    line = r"edit (\w+): ([0-9a-f]{64}) ([0-9a-f]{64})\n"
-    found = re.fullmatch(rf"date: (\d{{4}}-\d\d-\d\d)\n(?:kit: (.+)\n)?(?:{line})*", text)
-    lines = {name: Line(own, grounds) for name, own, grounds in re.findall(line, text)}
-    return Record(found[1], found[2], lines) if found else None
+    """Writes a crate's record, or removes it where it has no line."""
+    if record.lines:
+        with open(path_of_record(crate), "w", encoding="utf-8") as file:
+            file.write(record.text())
+    elif os.path.exists(path_of_record(crate)):
+        os.remove(path_of_record(crate))
 
 
 def record_of(crate: str) -> Record | None:
     """What a crate's record says; None where there is none that can be read."""
-    path = os.path.join(folder_of(crate), RECORD)
-    return record_in(read(path)) if os.path.isfile(path) else None
+    if not os.path.isfile(path_of_record(crate)):
+        return None
+    text, line = read(path_of_record(crate)), r"edit (\w+): ([0-9a-f]{64}) ([0-9a-f]{64})\n"
+    found = re.fullmatch(rf"date: (\d{{4}}-\d\d-\d\d)\n(?:kit: (.+)\n)?(?:{line})*", text)
+    lines = {name: Line(own, grounds) for name, own, grounds in re.findall(line, text)}
+    return Record(found[1], found[2], lines) if found else None

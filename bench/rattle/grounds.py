@@ -30,15 +30,11 @@ import re
 import subprocess
 import sys
 from collections.abc import Iterable, Iterator
-from typing import NamedTuple, Union
 
 import edits
 from edits import Edit, Record
-from source import RUST_PATH, TOP, Item, Key, Node, OfType, Project, Reader, RustModule, folder_of
-from source import names_in, parts_of_impl, read
-
-# What can be among the grounds: a word of specs/, or an item of Rattle, of a function its contract.
-Ground = Union[Key, Item]
+from source import HOLDERS, RUST_PATH, TOP, Item, Key, Node, Project, Reader, RustModule
+from source import folder_of, names_in, parts_of_impl, read
 
 # A text between quotes, also of several lines.
 WRITTEN = re.compile(Reader.TEXT.pattern, re.S)
@@ -47,13 +43,6 @@ LAYOUT = re.compile(rf"({TEXT})|(?:\s|//[^\n]*|/\*.*?\*/)+", re.S)
 NAME = re.compile(r"[A-Za-z_]\w*")
 # What Rattle makes of a crate's declarations, as modules beside those of specs/.
 MADE = ("declared", "contracts")
-
-
-class Place(NamedTuple):
-    """Where an item stands: its module, and the impl or trait around it."""
-
-    module: RustModule
-    holder: Item | None
 
 
 def plain(text: str) -> str:
@@ -65,40 +54,33 @@ def without_body(item: Item) -> str:
     """The text of an item, of a function without its body, of an impl or a trait its head alone."""
     if item.sort == "fn":
         return item.text[: item.body - item.begin]
-    return item.head if item.sort in ("impl", "trait") else item.text
+    return item.head if item.sort in HOLDERS else item.text
 
 
 class Tree(Project):
-    """The sources of all crates, and what each text in them cites."""
+    """The sources of all crates, and what each text in them cites. What can be among the grounds is
+    a word of specs/, or an item of Rattle, of a function its contract."""
 
     def __init__(self) -> None:
         super().__init__()
-        self.places: dict[Item, Place] = {}
-        # The functions that have a body, by the files in which they stand.
-        self.functions: dict[str, list[Item]] = {}
-        for crate in self.crates.values():
-            for module in crate.root.all():
-                self.take_places(module)
         self.made_for: dict[Item, list[Item]] = {}
-        for module, impl in self.impls:
-            for item in self.made_of(module, impl):
+        for impl in self.impls:
+            for item in self.made_of(impl):
                 self.made_for.setdefault(item, []).append(impl)
-        self.cited_by: dict[Ground, list[Ground]] = {}
-        self.lines: dict[Ground, str] = {}
+        self.cited_by: dict[Node, list[Node]] = {}
+        self.lines: dict[Node, str] = {}
 
-    def take_places(self, module: RustModule) -> None:
-        for item in module.items:
-            held = item.items if item.sort in ("impl", "trait") else []
-            self.places[item] = Place(module, None)
-            self.places.update(dict.fromkeys(held, Place(module, item)))
-            functions = [it for it in [item, *held] if it.sort == "fn"]
-            self.functions.setdefault(module.path, []).extend(functions)
+    def items(self) -> Iterator[Item]:
+        """All items, those in impls and traits too."""
+        for module in self.modules:
+            for item in module.items:
+                yield from (item, *item.members())
 
-    def made_of(self, module: RustModule, impl: Item) -> set[Item]:
+    def made_of(self, impl: Item) -> set[Item]:
         """The types of ours for which an impl is made, or else the trait, or what that names."""
         trait, made = parts_of_impl(impl.head)
         texts = (made.split("<")[0], made, trait.split("<")[0], trait)
-        found = (set(self.types_in(module, text)) for text in texts)
+        found = (set(self.types_in(impl.module, text)) for text in texts)
         return next(filter(None, found), set())
 
     # ---- what a text cites
@@ -120,51 +102,50 @@ class Tree(Project):
             if isinstance(found, Item):
                 yield found
 
-    def in_terms(self, place: Place, terms: Iterable[str]) -> Iterator[Ground]:
-        """What the terms of clauses cite."""
-        holders = [place.holder] if place.holder else []
-        scope = self.scope_within(place.module, holders)
+    def in_terms(self, module: RustModule, holder: Item | None, terms: Iterable[str]
+                 ) -> Iterator[Node]:
+        """What the terms of clauses cite, which stand in a module and a holder."""
+        scope = self.scope_within(module, holder)
         for term in terms:
-            yield from map(ground_of, self.cited(term, scope))
+            yield from self.cited(term, scope)
             for parts in names_in(term):
                 if parts[0] not in scope and NAME.fullmatch(parts[0]):
-                    yield from self.items_in(place.module, parts[0])
+                    yield from self.items_in(module, parts[0])
 
-    def citations(self, ground: Ground) -> list[Ground]:
+    def citations(self, ground: Node) -> list[Node]:
         """What a ground cites itself, in its order."""
         if ground not in self.cited_by:
             found = self.in_item(ground) if isinstance(ground, Item) else self.in_word(ground)
             self.cited_by[ground] = list(found)
         return self.cited_by[ground]
 
-    def in_word(self, key: Key) -> Iterator[Ground]:
+    def in_word(self, key: Key) -> Iterator[Node]:
         module = self.crates[key[0]].specs[key[1]]
         for word in self.words_at(key):
-            yield from map(ground_of, self.cited(word, self.scope_at(module)))
+            yield from self.cited(word, self.scope_at(module))
 
     def words_at(self, key: Key) -> list[str]:
         """The texts of a word, and what its module says of no word."""
         module = self.crates[key[0]].specs[key[1]]
         return [word.text for word in module.words if word.key == key] + module.rest
 
-    def in_item(self, item: Item) -> Iterator[Ground]:
-        place = self.places[item]
+    def in_item(self, item: Item) -> Iterator[Node]:
         members = [it for it in item.items if it.sort != "fn"]
         for text in [item.head, *(it.head for it in members if it.sort != "ghost use")]:
-            yield from self.items_in(place.module, plain(text))
-        holder = item if item.sort in ("impl", "trait") else place.holder
+            yield from self.items_in(item.module, plain(text))
+        holder = item if item.sort in HOLDERS else item.holder
         clauses = [clause for it in [item, *members] for clause in it.clauses]
-        yield from self.in_terms(Place(place.module, holder), (term for _, term in clauses))
-        if place.holder:
-            yield place.holder
+        yield from self.in_terms(item.module, holder, (term for _, term in clauses))
+        if item.holder:
+            yield item.holder
 
     # ---- the grounds of functions
 
-    def grounds(self, functions: Iterable[Item]) -> set[Ground]:
+    def grounds(self, functions: Iterable[Item]) -> set[Node]:
         """What the refusal of other bodies of these functions rests on, besides their texts."""
-        found: set[Ground] = set()
+        found: set[Node] = set()
         names: set[str] = set()
-        left: list[Ground] = []
+        left: list[Node] = []
         for function in functions:
             names.update(NAME.findall(plain(function.text)))
             left += [function, *self.named_in(function)]
@@ -179,7 +160,7 @@ class Tree(Project):
     def named_in(self, function: Item) -> Iterator[Item]:
         """The items that a function names, and the traits whose methods it can call on types that
         aren't ours."""
-        module, text = self.places[function].module, plain(function.text)
+        module, text = function.module, plain(function.text)
         yield from self.items_in(module, text)
         names = set(NAME.findall(text))
         for name in sorted({*module.named, *module.used}):
@@ -201,7 +182,7 @@ class Tree(Project):
 
     def is_of_foreign_trait(self, impl: Item) -> bool:
         trait = parts_of_impl(impl.head)[0].split("<")[0]
-        own = any(it.sort == "trait" for it in self.types_in(self.places[impl].module, trait))
+        own = any(it.sort == "trait" for it in self.types_in(impl.module, trait))
         return bool(trait) and not own
 
     def functions_of(self, edit: Edit) -> list[Item]:
@@ -215,32 +196,31 @@ class Tree(Project):
         path = os.path.join(folder_of(crate), change.path)
         at = read(path).find(change.old) if os.path.isfile(path) else -1
         end = at + len(change.old)
-        around = (it for it in self.functions.get(path, []) if it.body <= at and end <= it.end)
+        around = (it for it in self.crates[crate].functions()
+                  if it.module.path == path and it.body <= at and end <= it.end)
         return next(around, None) if at >= 0 else None
 
     # ---- checksums
 
-    def label(self, ground: Ground) -> str:
+    def label(self, ground: Node) -> str:
         """The name of a ground, with its place."""
         if not isinstance(ground, Item):
             return "%s.specs.%s.%s" % ground
-        module, holder = self.places[ground]
-        around = plain(holder.head) if holder else ""
+        module = ground.module
+        around = plain(ground.holder.head) if ground.holder else ""
         own = plain(ground.head) if ground.sort == "impl" else ground.name
         path = os.path.relpath(module.path, os.path.join(TOP, "crates")) if module.path else ""
         return " ".join(filter(None, [path, module.name, around, ground.sort, own]))
 
-    def text(self, ground: Ground) -> str:
+    def text(self, ground: Node) -> str:
         """The text of a ground: of an impl or a trait without its functions."""
         if not isinstance(ground, Item):
             lines = "\n".join(self.words_at(ground)).split("\n")
             return "\n".join(line.rstrip() for line in lines if line.strip())
-        members = [it for it in ground.items if it.sort not in ("fn", "ghost use")]
-        is_held = ground.sort in ("impl", "trait")
-        parts = [without_body(ground), *(it.text for it in members if is_held)]
-        return plain(" ; ".join(parts))
+        members = [it.text for it in ground.members() if it.sort not in ("fn", "ghost use")]
+        return plain(" ; ".join([without_body(ground), *members]))
 
-    def line(self, ground: Ground) -> str:
+    def line(self, ground: Node) -> str:
         """A line for a ground: its name, a checksum of its text, and what that cites."""
         if ground not in self.lines:
             cited = " ".join(self.label(it) for it in self.citations(ground))
@@ -258,10 +238,6 @@ class Tree(Project):
             named = " ".join(map(self.label, self.named_in(function)))
             lines += [plain(function.text), named]
         return hashlib.sha256("\n".join(lines).encode()).hexdigest()
-
-
-def ground_of(node: Node) -> Ground:
-    return node.item if isinstance(node, OfType) else node
 
 
 @functools.lru_cache(maxsize=None)

@@ -12,9 +12,9 @@ say of one type.
 
 The list has a row for each promise: of each crate the clauses, and how many edits change the body
 of one of their functions, or of one that these call in the same crate (taken by name, as grounds.py
-takes names); and what shown_by.txt names. With --renew it is written into PROMISES, and otherwise it is printed. With names the
-edits of these promises are printed, and what each promise itself names. Nothing is built. Standard
-library alone.
+takes names); and what shown_by.txt names. With --renew it is written into PROMISES, and otherwise
+it is printed. With names the edits of these promises are printed, and what each promise itself
+names. Nothing is built. Standard library alone.
 """
 
 import argparse
@@ -107,9 +107,9 @@ def items_by_file() -> dict[str, list[Item]]:
     """By each file its items that may have a clause: functions, those in impls and traits too, and
     impls."""
     found: dict[str, list[Item]] = {}
-    for item, place in grounds.tree().places.items():
+    for item in grounds.tree().items():
         if item.sort in ("fn", "impl"):
-            found.setdefault(place.module.path, []).append(item)
+            found.setdefault(item.module.path, []).append(item)
     return found
 
 
@@ -147,13 +147,13 @@ def clauses() -> list[Clause]:
 
 def label(item: Item) -> str:
     """What a function or an impl is called in its crate, as `serve`, `Store::open`."""
-    module, holder = grounds.tree().places[item]
+    holder = item.holder
     trait, made = parts_of_impl((holder or item).head)
     trait, made = (text.partition("<")[0] for text in (trait, made))
     if item.sort == "impl":
         return f"impl {trait} for {made}" if trait else f"impl {made}"
     owner = made if holder and holder.sort == "impl" else holder.name if holder else ""
-    owner = owner or (LAWS if module.name == LAWS else "")
+    owner = owner or (LAWS if item.module.name == LAWS else "")
     return f"{owner}::{item.name}" if owner else item.name
 
 
@@ -175,9 +175,7 @@ def called_by(function: Item, own: set[Item]) -> set[Item]:
 @functools.lru_cache(maxsize=None)
 def callers(crate: str) -> dict[Item, set[Item]]:
     """By each function of a crate the ones that may call it."""
-    top = folder_of(crate) + os.sep
-    own = {it for path, functions in grounds.tree().functions.items() if path.startswith(top)
-           for it in functions}
+    own = set(grounds.tree().crates[crate].functions())
     found: dict[Item, set[Item]] = {}
     for function in own:
         for called in called_by(function, own) - {function}:

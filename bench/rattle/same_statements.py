@@ -1,23 +1,22 @@
 """Lists the lemmas of proofs/ that state the same under other names, in groups.
 
-same_statements.py [--loose] [--only CRATE]
+same_statements.py [--only CRATE]
 
-Two statements are the same if they are but for the names of what they bind, for braces in place of
-parentheses, and for the names that a file gives to what it imports. The parameters of a module that
-a lemma stands in are a part of its statement where it uses them. `--loose` also lists those whose
-arguments are in another order. `--only` takes the groups that have a lemma of this crate. Each line
-is a lemma, with its file, its line and how many lines it has.
+Two statements are the same if they are but for the names and the types of what they bind, for the
+order of their premises, for braces in place of parentheses, and for the names that a file gives to
+what it imports. `--only` takes the groups that have a lemma of this crate. Each line is a lemma,
+with its file and its line.
 """
 
 import argparse
+import os
 import re
 from collections import defaultdict
 from collections.abc import Iterable, Iterator
-from itertools import count, takewhile
-from pathlib import Path
 from typing import NamedTuple, Union
 
-ROOT = Path(__file__).resolve().parents[2]
+from source import CRATES, TOP, files_of, import_in, read
+
 # What answers a goal of a function is stated by the goal.
 ANSWERS = ("Lib.antt", "Answers.antt", "Invariants.antt")
 # How the paths of the library begin. Its words go by their names alone, as many have two paths.
@@ -27,82 +26,99 @@ VALUES = ("List ", "Option ", "Type ")
 # How much of a statement is printed.
 MOST_SAID = 300
 
-USE = re.compile(r"^\s*(?:pub )?use ([\w.«»-]+)\.\{([^}]*)\}", re.M)
-NAMED = r"(?P<sort>(?:pub |abbrev |unfoldable )*)(?P<name>[^\s:(){}]+) : "
 # A module with parameters, what has a name and a type, or another line that isn't a comment.
-ITEM = re.compile(r"^(?P<indent> *)(?!--)(?:module _ (?P<parameters>(?s:.*?))where$|" + NAMED
-                  + r"(?P<said>.*(?:\n(?P=indent) +\S.*)*)|\S)", re.M)
-# How a line begins that isn't a part of the proof above it.
-NEXT = r"--|module |record |pub record|data |use |" + NAMED
+ITEM = re.compile(r"^(?P<indent> *)(?!--)(?:module _ (?P<parameters>(?s:.*?))where$"
+                  r"|(?P<sort>(?:pub |abbrev |unfoldable )*)(?P<name>[^\s:(){}]+) : "
+                  r"(?P<said>.*(?:\n(?P=indent) +\S.*)*)|\S)", re.M)
 WORD = re.compile(r"[()\[\],;]|[^\s()\[\],;]+")
-NUMBER = re.compile(r"%\d+")
+BOUND = re.compile(r"%[^\s.]+")
 
 # A word, or a group of words with its brackets.
 Tree = Union[str, list["Tree"]]
 
 
 class Lemma(NamedTuple):
-    """A lemma: where it stands, how many lines it has with its proof, and what it states."""
+    """A lemma: where it stands, and its premises and last what it gives from them."""
 
     name: str
-    path: Path
+    path: str
     line: int
-    length: int
-    statement: list[Tree]
+    parts: list[str]
 
+    def is_statement(self) -> bool:
+        """Whether it states something, rather than naming a value."""
+        last = self.parts[-1]
+        return " " in last and not last.startswith(VALUES) or last == "⊥"
 
-# ---- what is read
-
-
-def words_of(text: str) -> Iterator[str]:
-    """The words of a text; the full stop behind the names of a λ is one of its own."""
-    text = text.replace("{", "(").replace("}", ")")
-    return iter(WORD.findall(re.sub(r"\.(?=\s)", " .", text)))
+    def said(self) -> str:
+        """What is stated, with the premises in one order, and what it binds numbered."""
+        *premises, last = self.parts
+        premises.sort(key=lambda premise: BOUND.sub("%", premise))
+        numbers: dict[str, str] = {}
+        text = " | ".join(premises) + " ⊢ " + last
+        return BOUND.sub(lambda it: numbers.setdefault(it[0], f"%{len(numbers)}"), text)
 
 
 def trees_of(words: Iterator[str]) -> list[Tree]:
     """The words up to the end of a group, or up to the last one, with the groups among them."""
     found: list[Tree] = []
     for word in words:
-        if word in ("(", "["):
-            found.append([word, *trees_of(words)])
-        else:
-            found.append(word)
-            if word in (")", "]"):
-                break
+        found.append([word, *trees_of(words)] if word in ("(", "[") else word)
+        if word in (")", "]"):
+            break
     return found
 
 
 def flat(trees: Iterable[Tree]) -> Iterator[str]:
     """The words of trees."""
     for tree in trees:
-        if isinstance(tree, str):
-            yield tree
-        else:
-            yield from flat(tree)
-
-
-def binder(tree: Tree) -> tuple[list[str], list[Tree]]:
-    """The names that a group such as `(x y : A)` binds, if any, and what it has from the colon."""
-    if isinstance(tree, str) or tree[0] != "(" or ":" not in tree:
-        return [], []
-    colon = tree.index(":")
-    names = [name for name in tree[1:colon] if isinstance(name, str) and name not in (",", ";")]
-    return (names, tree[colon:]) if len(names) == colon - 1 else ([], [])
+        yield from [tree] if isinstance(tree, str) else flat(tree)
 
 
 def bound_by(tree: Tree) -> list[str]:
-    return binder(tree)[0]
+    """The names that a group such as `(x y : A)` binds."""
+    if isinstance(tree, str) or tree[0] != "(" or ":" not in tree:
+        return []
+    names = tree[1 : tree.index(":")]
+    return [it for it in names if isinstance(it, str)] if all(map(is_name, names)) else []
 
 
-def imported(text: str) -> dict[str, str]:
-    """What each name that a file imports stands for."""
-    names: dict[str, str] = {}
-    for path, items in USE.findall(text):
-        for item in filter(None, map(str.strip, items.split(","))):
-            real, _, other = item.partition(" as ")
-            names[other or real] = real if path.startswith(LIBRARY) else f"{path}.{real}"
-    return names
+def is_name(tree: Tree) -> bool:
+    return isinstance(tree, str) and tree not in (",", ";")
+
+
+def bound_in(trees: Iterable[Tree]) -> Iterator[str]:
+    """The names that trees bind, by a group or between a λ and its full stop."""
+    is_lambda = False
+    for tree in trees:
+        is_lambda = tree == "λ" or is_lambda and tree != "."
+        if not isinstance(tree, str):
+            yield from (*bound_by(tree), *bound_in(tree))
+        elif is_lambda and tree != "λ":
+            yield tree
+
+
+def parts_of(text: str, parameters: str, known: dict[str, str]) -> list[str]:
+    """The premises of a statement, and last what it gives, without what each begins with binding.
+    What is bound has a sign before its name, and other names are as they are known."""
+    trees, around = (trees_of(iter(WORD.findall(re.sub(
+        r"\.(?=\s)", " .", it.replace("{", "(").replace("}", ")"))))) for it in (text, parameters))
+    meant = known | {name: f"%{name}" for name in bound_in([*around, *trees])}
+    parts: list[list[Tree]] = [[]]
+    for tree in trees:
+        if tree == "→":
+            parts.append([])
+        elif parts[-1] or not bound_by(tree):
+            parts[-1].append(tree)
+    return [" ".join(named(word, meant) for word in flat(part)) for part in parts if part]
+
+
+def named(word: str, meant: dict[str, str]) -> str:
+    """What a word stands for, or what its first part does if it has fields behind it."""
+    if word in meant:
+        return meant[word]
+    root, dot, fields = word.partition(".")
+    return meant.get(root, root) + dot + fields
 
 
 def items_of(text: str) -> Iterator[tuple[re.Match[str], str]]:
@@ -117,168 +133,36 @@ def items_of(text: str) -> Iterator[tuple[re.Match[str], str]]:
             yield found, " ".join(parameters for _, parameters in around)
 
 
-def line_of(text: str, found: re.Match[str]) -> int:
-    return text.count("\n", 0, found.start()) + 1
-
-
-def length_of(text: str, found: re.Match[str]) -> int:
-    """How many lines a lemma has, with its proof."""
-    indent = found["indent"]
-    behind = re.compile(f"^(?!{indent}| *$)|^{indent}(?:{NEXT})", re.M).search(text, found.end())
-    end = behind.start() if behind else len(text)
-    return text[found.start():end].rstrip().count("\n") + 1
-
-
-def with_parameters(said: str, parameters: str) -> list[Tree]:
-    """What is said, behind those of the parameters that it uses."""
-    trees = trees_of(words_of(said))
-    for group in reversed(trees_of(words_of(parameters))):
-        names, kind = binder(group)
-        words = {word.partition(".")[0] for word in flat(trees)}
-        used = [name for name in names if name in words]
-        if used:
-            trees.insert(0, ["(", *used, *kind])
-    return trees
-
-
-def lemmas_of(path: Path) -> Iterator[Lemma]:
+def lemmas_of(path: str) -> Iterator[Lemma]:
     """The lemmas of a file, without the abbreviations of types."""
-    text = path.read_text(encoding="utf-8")
-    path = path.relative_to(ROOT)
+    text, inside = read(path), os.path.relpath(path, TOP)
     items = list(items_of(text))
-    module = f"{path.parts[1]}/{path.stem}"
-    known = {found["name"]: f"{module}.{found['name']}" for found, _ in items}
-    known.update(imported(text))
+    known = {found["name"]: f"{inside}.{found['name']}" for found, _ in items}
+    for it in filter(None, map(import_in, text.split("\n"))):
+        known.update((here, name if it.path.startswith(LIBRARY) else f"{it.path}.{name}")
+                     for name, here in it.names or ())
     for found, parameters in items:
         if not found["sort"].startswith("abbrev") or "Type" not in found["said"]:
-            trees = with_parameters(found["said"], parameters)
-            yield Lemma(found["name"], path, line_of(text, found), length_of(text, found),
-                        numbered(trees, known, numbers()))
-
-
-# ---- what is stated
-
-
-def without_arrows(trees: Iterable[Tree]) -> Iterator[Tree]:
-    """What is said, without the arrows behind what is bound, which may be left out."""
-    before: Tree = ""
-    for tree in trees:
-        if tree != "→" or not bound_by(before):
-            yield tree
-        before = tree
-
-
-def bound_by_lambda(rest: Iterator[Tree]) -> Iterator[str]:
-    """The names behind a λ, up to the full stop, which is passed over."""
-    for tree in takewhile(lambda tree: tree != ".", rest):
-        yield from [tree] if isinstance(tree, str) else bound_by(tree)
-
-
-def named(word: str, known: dict[str, str]) -> str:
-    """What a word stands for, or what its first part does if it has fields behind it."""
-    if word in known:
-        return known[word]
-    root, dot, fields = word.partition(".")
-    return known.get(root, root) + dot + fields
-
-
-def numbers() -> Iterator[str]:
-    return (f"%{number}" for number in count())
-
-
-def numbered(trees: Iterable[Tree], known: dict[str, str], left: Iterator[str]) -> list[Tree]:
-    """What is said, with what it binds numbered in order, and other names as they are known."""
-    known = dict(known)
-    said: list[Tree] = []
-    rest = without_arrows(trees)
-    for tree in rest:
-        if tree == "λ":
-            pairs = list(zip(bound_by_lambda(rest), left))
-            said += [tree, *(number for _, number in pairs)]
-            known.update(pairs)
-        elif isinstance(tree, str):
-            said.append(named(tree, known))
-        else:
-            names, kind = binder(tree)
-            if not names:
-                said.append(numbered(tree, known, left))
-            typed = [(name, next(left), numbered(kind, known, left)) for name in names]
-            said += [["(", number, *its] for _, number, its in typed]
-            known.update((name, number) for name, number, _ in typed)
-    return said
-
-
-def parts_of(statement: list[Tree]) -> list[str]:
-    """The premises of a statement, and last what it gives."""
-    parts: list[list[Tree]] = [[]]
-    for tree in statement:
-        if tree == "→":
-            parts.append([])
-        elif parts[-1] or not bound_by(tree):
-            parts[-1].append(tree)
-    return [" ".join(flat(part)) for part in parts]
-
-
-def is_statement(statement: list[Tree]) -> bool:
-    """Whether it states something, rather than naming a value."""
-    last = parts_of(statement)[-1]
-    return " " in last and not last.startswith(VALUES) or last == "⊥"
-
-
-def loosely(statement: list[Tree]) -> str:
-    """What is stated, with the premises in one order, and without the types of what it binds."""
-    *premises, last = parts_of(statement)
-    premises.sort(key=lambda premise: NUMBER.sub("%", premise))
-    given: dict[str, str] = {}
-
-    def anew(found: re.Match[str]) -> str:
-        return given.setdefault(found[0], f"%{len(given)}")
-
-    last = NUMBER.sub(anew, last)
-    return NUMBER.sub(anew, " | ".join(premises)) + " ⊢ " + last
-
-
-# ---- what is said
-
-
-def groups_of(lemmas: Iterable[Lemma], is_loose: bool) -> dict[str, list[Lemma]]:
-    """The lemmas by what they state."""
-    groups: dict[str, list[Lemma]] = defaultdict(list)
-    for lemma in lemmas:
-        exact = " ".join(flat(lemma.statement))
-        groups[loosely(lemma.statement) if is_loose else exact].append(lemma)
-    return groups
-
-
-def is_told(group: list[Lemma], crate: str) -> bool:
-    """Whether it states something twice, where this crate, or any if none is asked, has one."""
-    has_one = any(crate in ("", lemma.path.parts[1]) for lemma in group)
-    return len(group) > 1 and has_one and is_statement(group[0].statement)
-
-
-def lines_in(group: list[Lemma]) -> int:
-    return sum(lemma.length for lemma in group)
-
-
-def tell(group: list[Lemma], said: str) -> None:
-    print(f"== {len(group)} lemmas, {lines_in(group)} lines: {said[:MOST_SAID]}")
-    for name, path, line, length, _ in group:
-        print(f"   {path}:{line} {name} ({length})")
+            yield Lemma(found["name"], inside, text.count("\n", 0, found.start()) + 1,
+                        parts_of(found["said"], parameters, known))
 
 
 def main() -> None:
-    parser = argparse.ArgumentParser(description=__doc__.strip().split("\n", maxsplit=1)[0])
-    parser.add_argument("--loose", action="store_true", help="with arguments in any order")
+    parser = argparse.ArgumentParser(description=(__doc__ or "").split("\n", maxsplit=1)[0])
     parser.add_argument("--only", metavar="CRATE", default="", help="with a lemma of this crate")
-    asked = parser.parse_args()
-    files = sorted(ROOT.glob("crates/*/proofs/**/*.antt"))
-    lemmas = [lemma for file in files if file.name not in ANSWERS for lemma in lemmas_of(file)]
-    groups = groups_of(lemmas, asked.loose)
-    told = [(said, group) for said, group in groups.items() if is_told(group, asked.only)]
-    told.sort(key=lambda one: (-len(one[1]), -lines_in(one[1]), one[0]))
-    for said, group in told:
-        tell(group, said)
-    print(f"{len(told)} groups, {sum(len(group) for _, group in told)} lemmas, of {len(lemmas)}")
+    top = os.path.join(CRATES, parser.parse_args().only, "")
+    groups: dict[str, list[Lemma]] = defaultdict(list)
+    for path in files_of(os.path.join(CRATES, "*", "proofs"), ".antt"):
+        for lemma in lemmas_of(path) if os.path.basename(path) not in ANSWERS else ():
+            groups[lemma.said()].append(lemma)
+    told = [(said, group) for said, group in groups.items()
+            if len(group) > 1 and group[0].is_statement()
+            and any(os.path.join(TOP, it.path).startswith(top) for it in group)]
+    for said, group in sorted(told, key=lambda one: (-len(one[1]), one[0])):
+        print(f"== {len(group)} lemmas: {said[:MOST_SAID]}")
+        print(*(f"   {it.path}:{it.line} {it.name}" for it in group), sep="\n")
+    print(f"{len(told)} groups, {sum(len(group) for _, group in told)} lemmas, "
+          f"of {sum(map(len, groups.values()))}")
 
 
 if __name__ == "__main__":

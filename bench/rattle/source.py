@@ -1,8 +1,8 @@
 """Isn't started: the one reader of Rattle and of specs/, which all scripts here stand on.
 
 Of a file of Rattle it reads the items, with the clauses of functions, and passes over bodies; of a
-file of specs/ the lines `use` and the words, which are its definitions. A project is all crates, and
-what the names in them are. Standard library alone.
+file of specs/ the lines `use` and the words, which are its definitions. A project is all crates,
+and what the names in them are. Standard library alone.
 """
 
 from __future__ import annotations
@@ -13,7 +13,7 @@ import os
 import re
 import sys
 from collections.abc import Collection, Iterable, Iterator, Sequence
-from typing import NamedTuple, Optional, Union
+from typing import NamedTuple, Union
 
 TOP = os.path.dirname(os.path.dirname(os.path.dirname(os.path.abspath(__file__))))
 CRATES = os.path.join(TOP, "crates")
@@ -31,19 +31,10 @@ STRING = re.compile(r'"(?:[^"\\\n]|\\.)*"')
 QUOTED = re.compile(STRING.pattern + r"|(?:^|(?<=\s))--.*$", re.M)
 CONSTRUCTORS = re.compile(r"^  (?P<names>[^\s:(){}]+(?: [^\s:(){}]+)*) :", re.M)
 
-# A word: its crate, its module and its name.
+# A word: its crate, its module and its name. What a name can be of is a word, or an item of Rattle;
+# in a scope also the path of a module, or nothing.
 Key = tuple[str, str, str]
-
-
-class OfType(NamedTuple):
-    """A type of Rattle, and its crate."""
-
-    crate: str
-    item: Item
-
-
-# What can be reached, and what a name means in a scope: that, the path of a module, or nothing.
-Node = Union[Key, OfType]
+Node = Union[Key, "Item"]
 Scope = dict[str, Union[Node, str, None]]
 
 
@@ -99,30 +90,31 @@ def spellings(name: str) -> list[str]:
 # ---- antt
 
 
-class Import:
-    """A `use` line: the module's path, and its names with what each is called here."""
+class Import(NamedTuple):
+    """A `use` line: the path of a module, what that is called here, and its names, if it is for
+    these, with what each is called."""
 
-    def __init__(self, path: str, names: Optional[list[tuple[str, str]]],
-                 alias: Optional[str]) -> None:
-        self.path, self.names, self.alias = path, names, alias
+    path: str
+    alias: str
+    names: list[tuple[str, str]] | None
 
-    @staticmethod
-    def of(line: str) -> Optional[Import]:
-        """The import that a line is, or None."""
-        found = USE.match(line)
-        if not found:
-            return None
-        names = None
-        if found["names"] is not None:
-            pairs = (part.split(" as ") for part in found["names"].split(",") if part.strip())
-            names = [(pair[0].strip(), pair[-1].strip()) for pair in pairs]
-        return Import(found["path"], names, found["alias"])
+
+def import_in(line: str) -> Import | None:
+    """The import that a line is, or None."""
+    found = USE.match(line)
+    if not found:
+        return None
+    names = None
+    if found["names"] is not None:
+        pairs = (part.split(" as ") for part in found["names"].split(",") if part.strip())
+        names = [(pair[0].strip(), pair[-1].strip()) for pair in pairs]
+    return Import(found["path"], found["alias"] or found["path"].split(".")[-1], names)
 
 
 class Word:
     """A definition: its name, its text, and the line on which it begins."""
 
-    def __init__(self, key: Key, sort: Optional[str], text: str, line: int) -> None:
+    def __init__(self, key: Key, sort: str | None, text: str, line: int) -> None:
         self.key, self.sort, self.text, self.line = key, sort, text, line
         self.crate, self.module, self.name = key
         # Its body is shut, so that nothing but what its signature says is known of it.
@@ -155,13 +147,13 @@ class Module:
                 begun = number
 
     def take_use(self, line: str) -> None:
-        found = Import.of(line)
+        found = import_in(line)
         assert found is not None, line
-        if line.startswith("pub ") and found.names is None:
-            self.passed[found.alias or found.path.split(".")[-1]] = found.path
-        elif line.startswith("pub ") and found.names is not None:
-            self.passed_names.update((here, (found.path, name)) for name, here in found.names)
         self.imports.append(found)
+        if line.startswith("pub ") and found.names is None:
+            self.passed[found.alias] = found.path
+        elif line.startswith("pub "):
+            self.passed_names.update((here, (found.path, name)) for name, here in found.names or ())
 
     def take_word(self, lines: list[str], number: int) -> None:
         found = DECLARATION.match(lines[0])
@@ -187,6 +179,9 @@ def names_in(text: str) -> Iterator[list[str]]:
 # ---- Rattle
 
 
+HOLDERS = ("impl", "trait")
+
+
 class Item:
     """An item of Rattle: what it is, its name, whether it is `pub`, and what stands in it."""
 
@@ -200,8 +195,13 @@ class Item:
         # The head of each clause, and its term.
         self.clauses: list[tuple[str, str]] = []
         self.items: list[Item] = []
-        # The module that it stands in, once that has taken it.
+        # The impl or the trait around it, and the module that it stands in, once that has taken it.
+        self.holder: Item | None = None
         self.module: RustModule
+
+    def members(self) -> list[Item]:
+        """What stands in an impl or a trait."""
+        return self.items if self.sort in HOLDERS else []
 
 
 class Reader:
@@ -275,7 +275,7 @@ class Reader:
         self.token()
         return items
 
-    def item(self) -> Optional[Item]:
+    def item(self) -> Item | None:
         """The next item, with what stands before its first word."""
         is_test = is_open = False
         begin = self.at
@@ -299,7 +299,7 @@ class Reader:
             item.begin, item.end, item.text = begin, self.at, self.text[begin: self.at]
         return item
 
-    def item_of(self, sort: str, is_open: bool) -> Optional[Item]:
+    def item_of(self, sort: str, is_open: bool) -> Item | None:
         """The item that begins with this word."""
         if sort == "ghost":
             return self.ghost()
@@ -332,11 +332,15 @@ class Reader:
             self.token()
         return item
 
-    def read_mod(self, item: Item) -> None:
+    def read_block(self, item: Item) -> None:
+        """Reads a module, an impl or a trait."""
         item.head = self.until(";{")
         item.is_inline = self.token() == "{"
-        if item.is_inline:
-            item.items = self.items()
+        item.items = self.items() if item.is_inline else []
+        for member in item.members():
+            member.holder = item
+
+    read_mod = read_impl = read_trait = read_block
 
     def read_struct(self, item: Item) -> None:
         item.head = self.until("{;")
@@ -368,13 +372,6 @@ class Reader:
         self.skip_group()
         item.head += self.text[begin: self.at]
 
-    def read_trait(self, item: Item) -> None:
-        item.head = self.until("{")
-        self.token()
-        item.items = self.items()
-
-    read_impl = read_trait
-
     def read_fn(self, item: Item) -> None:
         stops = ("requires", "ensures", "ghost", "{", ";")
         item.head = self.until(stops)
@@ -388,26 +385,25 @@ class Reader:
             self.skip_group()
 
 
-def functions_in(items: Iterable[Item], holder: Item | None = None
-                 ) -> Iterator[tuple[Item, Item | None]]:
-    """The functions among items, and in the impls, traits and modules among them, each with the
-    impl or trait around it."""
+def functions_in(items: Iterable[Item]) -> Iterator[Item]:
+    """The functions among items, and in the impls, traits and modules among them."""
     for item in items:
         if item.sort == "fn":
-            yield item, holder
-        elif item.sort in ("impl", "trait", "mod"):
-            yield from functions_in(item.items, None if item.sort == "mod" else item)
+            yield item
+        elif item.sort in (*HOLDERS, "mod"):
+            yield from functions_in(item.items)
 
 
-def functions_of(text: str) -> Iterator[tuple[Item, Item | None]]:
+def functions_of(text: str) -> Iterator[Item]:
     """The functions of the text of a file."""
     return functions_in(Reader(text).items())
 
 
 def function_around(text: str, at: int) -> tuple[Item, Item | None] | None:
-    """The function of the text of a file in which a place lies, if it has a body."""
-    return next((found for found in functions_of(text)
-                 if found[0].begin <= at < found[0].end and found[0].brace is not None), None)
+    """The function of the text of a file in which a place lies, if it has a body, with the impl or
+    the trait around it."""
+    return next(((it, it.holder) for it in functions_of(text)
+                 if it.begin <= at < it.end and it.brace is not None), None)
 
 
 # Brackets around arguments, of types too.
@@ -464,7 +460,7 @@ def used_names(text: str, front: Sequence[str] = ()) -> Iterator[tuple[list[str]
 class RustModule:
     """A module of Rattle: its items, the modules below it, and what its `use` lines bring."""
 
-    def __init__(self, crate: str, name: str, above: Optional[RustModule], path: str) -> None:
+    def __init__(self, crate: str, name: str, above: RustModule | None, path: str) -> None:
         self.crate, self.name, self.above, self.path = crate, name, above, path
         self.is_open = False
         self.items: list[Item] = []
@@ -477,7 +473,8 @@ class RustModule:
     def take(self, items: list[Item], folder: str) -> None:
         """Takes items, and reads the files of the modules that they name."""
         for item in items:
-            item.module = self
+            for one in (item, *item.items):
+                one.module = self
             if item.sort == "use":
                 for parts, alias in used_names(item.head):
                     self.used[alias] = (parts, item.is_open)
@@ -523,6 +520,11 @@ class Crate:
                 self.root = RustModule(name, "", None, path)
                 self.root.take(Reader(read(path)).items(), os.path.join(self.folder, "src"))
 
+    def functions(self) -> Iterator[Item]:
+        """Its functions, those in impls and traits too."""
+        for module in self.root.all():
+            yield from functions_in(it for it in module.items if it.sort != "mod")
+
 
 # What a path of Rattle names, if it names anything.
 Found = Union[Item, RustModule, None]
@@ -537,13 +539,12 @@ class Project:
         self.words = {w.key: w for c in self.crates.values() for m in c.specs.values()
                       for w in m.words}
         self.scopes: dict[Module, Scope] = {}
-        self.impls = [(module, item) for crate in self.crates.values()
-                      for module in crate.root.all() for item in module.items
-                      if item.sort == "impl"]
+        self.modules = [it for crate in self.crates.values() for it in crate.root.all()]
+        self.impls = [it for module in self.modules for it in module.items if it.sort == "impl"]
 
     # ---- names
 
-    def module_at(self, path: str) -> Optional[Module]:
+    def module_at(self, path: str) -> Module | None:
         """The module of specs/ with this path, such as `Rattle.blocks.specs.Cache`."""
         parts = path.split(".")
         crate = self.crates.get(parts[1]) if len(parts) > 3 and parts[0] == "Rattle" else None
@@ -556,7 +557,7 @@ class Project:
                 return self.module_at(".".join([above.passed[part]] + parts[at + 1:]))
         return crate.specs.get(".".join(parts))
 
-    def node_at(self, path: str, name: str) -> Optional[Node]:
+    def node_at(self, path: str, name: str) -> Node | None:
         """What a name of a module is: a word, a type of Rattle, or None for what isn't ours."""
         parts = path.split(".")
         if len(parts) > 4 and parts[2:4] == ["specs", "declared"] and parts[1] in self.crates:
@@ -570,7 +571,7 @@ class Project:
             return self.node_at(*module.passed_names[name])
         return None
 
-    def node_of(self, parts: list[str], scope: Scope) -> Optional[Node]:
+    def node_of(self, parts: list[str], scope: Scope) -> Node | None:
         """What a name with dots is, in a scope: its first part may be a module, or `Rattle`."""
         node = "Rattle" if parts[0] == "Rattle" else scope.get(parts[0])
         if not isinstance(node, str):
@@ -581,12 +582,12 @@ class Project:
                 return found
         return None
 
-    def type_at(self, crate: Crate, parts: list[str]) -> Optional[OfType]:
+    def type_at(self, crate: Crate, parts: list[str]) -> Item | None:
         """The type that stands at a path of a crate."""
         module = crate.root
         for part in parts:
             if part in module.named and part == parts[-1]:
-                return OfType(crate.name, module.named[part])
+                return module.named[part]
             if part not in module.below:
                 return None
             module = module.below[part]
@@ -597,7 +598,7 @@ class Project:
         scope: Scope = {}
         for found in imports:
             if found.names is None:
-                scope[found.alias or found.path.split(".")[-1]] = found.path
+                scope[found.alias] = found.path
                 continue
             for name, here in found.names:
                 node = self.node_at(found.path, name)
@@ -613,15 +614,15 @@ class Project:
             self.scopes[module] = self.scope_of(module.imports, module.words)
         return self.scopes[module]
 
-    def scope_within(self, module: RustModule, holders: Sequence[Item]) -> Scope:
-        """What names mean in clauses that stand in these items of a module of Rattle."""
-        lines = module.ghost_uses + [i.head for h in holders for i in h.items
-                                     if i.sort == "ghost use"]
-        above = module.above
-        while above and above.path == module.path:
-            lines = above.ghost_uses + lines
-            above = above.above
-        return self.scope_of(filter(None, map(Import.of, lines)))
+    def scope_within(self, module: RustModule, holder: Item | None) -> Scope:
+        """What names mean in clauses that stand in a module of Rattle, in an impl or a trait or in
+        none."""
+        lines = [it.head for it in holder.items if it.sort == "ghost use"] if holder else []
+        around: RustModule | None = module
+        while around and around.path == module.path:
+            lines = around.ghost_uses + lines
+            around = around.above
+        return self.scope_of(filter(None, map(import_in, lines)))
 
     def cited(self, text: str, scope: Scope, hidden: Collection[str] = ()) -> Iterator[Node]:
         """The nodes that a term names, in a scope."""

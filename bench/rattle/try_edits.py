@@ -24,7 +24,6 @@ Standard library alone.
 import argparse
 import datetime
 import enum
-import importlib.util
 import itertools
 import os
 import re
@@ -34,16 +33,18 @@ import sys
 import tempfile
 import threading
 from collections.abc import Iterable, Iterator
-from concurrent.futures import FIRST_COMPLETED, Future, ThreadPoolExecutor, wait
+from concurrent.futures import Future, ThreadPoolExecutor
 from dataclasses import dataclass
 from importlib.machinery import SourceFileLoader
+from pathlib import Path
+from types import ModuleType
 from typing import Any
 
 import edits as editing
 import grounds
 from check_edits import faults_of_edits
-from edits import EDITS, MUST_FAIL, SPECS, SRC, Change, Edit, Line, Misfit, Record, texts_with
-from source import TOP, functions_of, read
+from edits import EDITS, MUST_FAIL, PROOFS, SPECS, SRC, Edit, Line, Misfit, Record, texts_with
+from source import TOP, Item, functions_of, parts_of_impl, read
 
 # The statement that does nothing, and in how many functions it is tried before the edits.
 PLANTED = " let planted = 0u8; let _ = planted;"
@@ -52,33 +53,19 @@ PLANTS = 6
 KEPT = os.path.join("out", "incremental")
 
 # What a check prints: of each function; of a goal that isn't proved, above its function's line; of
-# an answer that doesn't prove its goal, in a function's folder of proofs/, and of those that rest
-# on one; and what it says of an answer if that only names what isn't there any more.
+# an answer or a lemma in proofs/ that doesn't prove what it states, and of those that rest on one;
+# and what it says of one if that only names what isn't there any more.
 OF_FUNCTION = re.compile(r"fn (\w+)::(\S+): (.*)")
 OF_GOAL = re.compile(r"note: \S+: it is not proved that .*?\(`([^`]+)`\)")
-OF_ANSWER = re.compile(r"(?:\./)?proofs/(\S+)/\w+\.antt:\d+:\d+: error: `([^`]+)`: (.*)")
-OF_DEPENDENTS = re.compile(
-    r"(?:\./)?proofs/(\S+)/\w+\.antt:\d+:\d+: error: .* on `([^`]+)`, .* were not checked: (.*)")
-# What it says of a lemma in proofs/ that isn't true, and of what rests on a lemma.
-OF_LEMMA = re.compile(r"(?:\./)?proofs/\w+\.antt:\d+:\d+: error: `([^`]+)`: (.*)")
-OF_RESTING = re.compile(
-    r"(?:\./)?proofs/(\S+)\.antt:\d+:\d+: error: .* on `([^`]+)`, .* not checked: (.*)")
+OF_PROOF = re.compile(r"(?:\./)?proofs/(\S+)\.antt:\d+:\d+: error: (.*)")
+FAILED = re.compile(r"`([^`]+)`: (.*)")
+RESTING = re.compile(r".* on `([^`]+)`, .* not checked: (.*)")
+# What stands between the names of those that rest on a lemma: by which of them each does, too.
+BETWEEN_NAMES = re.compile(r"(?: \(via \w+\))?(?:, | and \d+ more|$)")
 LOST = re.compile(r"has no field|is not in scope|has no `|was not admitted|is no name")
 UNPROVED = ("not proved", "no proof")
 SEARCHED = re.compile(r"`search` did not prove ((?:`[^`]+`(?:, )?)+)")
 ENDED = re.compile(r"(only=|logic=)\S+")
-
-
-@dataclass(frozen=True)
-class Function:
-    """A function of a source file: its module, the head of the impl or trait around it, its name,
-    and where its body begins and ends."""
-
-    module: str
-    owner: str
-    name: str
-    body: int
-    end: int
 
 
 class Outcome(enum.Enum):
@@ -115,11 +102,10 @@ class LostControl(Exception):
 def kit() -> Any:
     """The kit's `rt`, as a module."""
     path = os.path.realpath(shutil.which("rt") or sys.exit("rt is not on the path"))
-    loader = SourceFileLoader("rt", path)
-    spec = importlib.util.spec_from_loader("rt", loader)
-    module = importlib.util.module_from_spec(spec) if spec else sys.exit(f"{path}: no script")
     sys.path.insert(0, os.path.dirname(path))
-    loader.exec_module(module)
+    module = ModuleType("rt")
+    module.__file__ = path
+    SourceFileLoader("rt", path).exec_module(module)
     return module
 
 
@@ -130,86 +116,81 @@ def crates_of(rt: Any) -> dict[str, Any]:
     return {crate.name: crate for crate in rt.rtlib.crates_below(TOP)}
 
 
-def link_or_copy(path: str, to: str) -> None:
-    try:
-        os.link(path, to)
-    except OSError:
-        shutil.copy2(path, to)
+def proved_owner(holder: Item | None) -> str | None:
+    """The prover's name of an impl, by its type, or `Any` for one of its own parameters, and its
+    trait; or of a trait."""
+    if holder is None:
+        return None
+    if holder.sort == "trait":
+        return holder.name
+    trait, made = parts_of_impl(holder.head)
+    name = re.split(r"\W", made)[0]
+    is_parameter = re.match(rf"\s*<[^>]*\b{name}\b", holder.head)
+    return ("Any" if name and is_parameter else name) + re.sub(r"\W", "", trait)
 
 
-def link_folder(folder: str, to: str) -> None:
-    """Makes a copy of a folder of links to its files, which the prover replaces, and doesn't
-    change."""
-    shutil.copytree(folder, to, copy_function=link_or_copy)
-
-
-def functions_in(text: str, path: str) -> list[Function]:
-    """The functions with a body of the text of a source file."""
-    module = re.sub(r"^src/|\.rt$|/mod\.rt$", "", path).replace("/", "::")
-    module = "" if module in ("lib", "main") else module
-    return [Function(module, f"{holder.sort}{holder.head}" if holder else "", item.name, item.brace,
-                     item.end)
-            for item, holder in functions_of(text) if item.brace is not None]
-
-
-def proved_owner(owner: str) -> str:
-    """The prover's name of a type, or of an `impl` of a trait, by the head of its block."""
-    head = re.sub(r"^(impl(<[^{]*?>)? |trait )", "", owner.strip())
-    of_trait, is_impl, of_type = head.partition(" for ")
-    named = re.match(r"\w+", of_type if is_impl else head)
-    return (named[0] if named else "") + (re.sub(r"\W", "", of_trait) if is_impl else "")
-
-
-def proved_name(function: Function, names: Iterable[str]) -> str | None:
+def proved_name(function: Item, names: Iterable[str]) -> str | None:
     """The prover's name of a function: of those in its module with its own name, the one whose type
     the head of the `impl` block names. A method may stand in another module than its type, by which
     the prover names it."""
-    before = f"{function.module}::" if function.module else ""
-    named = [it for it in names if it.rpartition("::")[2] == function.name]
-    found = [it for it in named if it.startswith(before)]
-    found = [it for it in found if it[len(before) :].count("::") == bool(function.owner)]
-    if not found and function.owner:
-        found = [it for it in named if it.split("::")[-2] == proved_owner(function.owner)]
-    if len(found) > 1:
-        exact = [it for it in found if it.split("::")[-2] == proved_owner(function.owner)]
-        if exact:
-            return exact[0]
-        words = re.sub(r"\W", "", re.sub(r"<[^<>]*>", "", function.owner))
-        owned = [it for it in found if it.split("::")[-2] in words]
-        found = owned or [it for it in found if first_word(it.split("::")[-2]) in words]
-    return found[0] if len(found) == 1 else None
-
-
-def first_word(name: str) -> str:
-    return (re.match(r"\w*", name) or [""])[0]
+    path, module = list[str](), function.module
+    while module.above:
+        path, module = [module.name, *path], module.above
+    owner = proved_owner(function.holder)
+    named = {name: name.split("::") for name in names if name.endswith(function.name)}
+    named = {name: parts for name, parts in named.items() if parts[-1] == function.name}
+    inside = [name for name, parts in named.items() if parts[: -2 if owner else -1] == path]
+    owned = [name for name, parts in named.items() if owner and parts[-2:-1] == [owner]]
+    both = [name for name in inside if name in owned]
+    found = next((them for them in (both, inside, owned) if len(them) == 1), None)
+    return found[0] if found else None
 
 
 class Report:
-    """What a check says of the functions of a crate."""
+    """What a check says of the functions of a crate, whose proofs are in a folder."""
 
-    def __init__(self, ran: subprocess.CompletedProcess[str], crate: str) -> None:
+    def __init__(self, ran: subprocess.CompletedProcess[str], crate: str, proofs: str) -> None:
         self.status, self.lines = ran.returncode, ran.stdout.rstrip("\n").split("\n")
+        self.proofs = proofs
         self.said: dict[str, list[str]] = {}
         self.goals: dict[str, list[str]] = {}
+        # By function, and "" for none, what its proofs don't prove; of each lemma that rests on one
+        # which isn't true that one; and the goals of functions whose answers do.
         self.answers: dict[str, set[str]] = {}
+        self.untrue: dict[str, str] = {}
+        self.refuted: list[str] = []
         noted: list[str] = []
         for line in self.lines:
-            goal, function = OF_GOAL.match(line), OF_FUNCTION.match(line)
-            self.take_answer(line)
-            if goal:
+            goal, function, proof = (it.match(line) for it in (OF_GOAL, OF_FUNCTION, OF_PROOF))
+            if proof:
+                self.take_proof(function_of_folder(proof[1].rpartition("/")[0]), proof[2])
+            elif goal:
                 noted.append(goal[1])
             elif function and function[1] == crate:
                 self.take_function(function[2], function[3], noted)
                 noted = []
 
-    def take_answer(self, line: str) -> None:
-        """Takes what a line says of an answer that doesn't prove its goal, or of those on it."""
-        answer, dependents = OF_ANSWER.match(line), OF_DEPENDENTS.match(line)
-        if answer and not LOST.search(answer[3]):
-            self.answers.setdefault(function_of_folder(answer[1]), set()).add(answer[2])
-        elif dependents:
-            known = self.answers.get(function_of_folder(dependents[1]), set())
-            known |= set(dependents[3].split(", ")) if dependents[2] in known else set()
+    def take_proof(self, function: str, said: str) -> None:
+        """Takes what is said of an answer or a lemma that doesn't prove what it states, or of those
+        that rest on one."""
+        failed, resting = FAILED.match(said), RESTING.match(said)
+        own = self.answers.setdefault(function, set())
+        if failed and not LOST.search(failed[2]):
+            own.add(failed[1])
+            self.untrue.update({} if function else {failed[1]: failed[1]})
+        elif resting:
+            names = set(BETWEEN_NAMES.split(resting[2])) - {""}
+            own |= names if resting[1] in own else set()
+            if resting[1] in self.untrue:
+                self.take_resting(function, names, self.untrue[resting[1]])
+
+    def take_resting(self, function: str, names: set[str], lemma: str) -> None:
+        """Takes what rests on a lemma that isn't true: goals of a function, or other lemmas."""
+        goals = goals_answered(self.proofs, function) & names if function else set[str]()
+        if goals:
+            self.refuted.append(f"{function}: {min(goals)}, by its lemma {lemma}")
+        else:
+            self.untrue.update(dict.fromkeys(names, lemma))
 
     def take_function(self, name: str, said: str, noted: list[str]) -> None:
         """Takes the line of a function, above which these goals were noted."""
@@ -229,37 +210,19 @@ class Report:
     def proved(self) -> set[str]:
         return {name for name in self.said if self.is_proved(name)}
 
-    def reason(self, function: str | None, proofs: str) -> str | None:
-        """A goal that isn't proved, of this function or of a closure of it, or of any function: one
-        that was searched for, or else one whose answer in the folder `proofs` no longer fits."""
-        own = [name for name in sorted(self.said) if function is None or is_within(name, function)]
-        own = [name for name in own if any(is_unproved(said) for said in self.said[name])]
-        for name in own:
-            if self.goals.get(name):
-                return f"{name}: {self.goals[name][0]}"
-        for name in own:
-            goals = self.answers.get(name, set()) & goals_answered(proofs, name)
-            if goals:
-                return f"{name}: {min(goals)}, by its answer"
+    def reason(self, functions: Iterable[str] | None = None) -> str | None:
+        """A goal that isn't proved, of one of these functions or of a closure of it, or of any
+        function: one that was searched for, or else one whose answer no longer fits."""
+        for function in [None] if functions is None else functions:
+            own = [name for name in sorted(self.said) if not function or is_within(name, function)]
+            own = [name for name in own if any(map(is_unproved, self.said[name]))]
+            searched = (f"{it}: {self.goals[it][0]}" for it in own if self.goals.get(it))
+            answered = (f"{it}: {min(goals)}, by its answer" for it in own if (
+                goals := self.answers.get(it, set()) & goals_answered(self.proofs, it)))
+            reason = next(itertools.chain(searched, answered), None)
+            if reason:
+                return reason
         return None
-
-    def refuted(self, proofs: str) -> str | None:
-        """The goals of functions whose answers rest on a lemma that isn't true, each with it."""
-        lemmas: dict[str, str] = {}
-        found: list[str] = []
-        for line in self.lines:
-            lemma, resting = OF_LEMMA.match(line), OF_RESTING.match(line)
-            if lemma and not LOST.search(lemma[2]):
-                lemmas[lemma[1]] = lemma[1]
-            elif resting and resting[2] in lemmas:
-                function = function_of_folder(resting[1].rpartition("/")[0])
-                names = resting[3].split(", ")
-                goals = goals_answered(proofs, function).intersection(names)
-                if function and goals:
-                    found.append(f"{function}: {min(goals)}, by its lemma {lemmas[resting[2]]}")
-                else:
-                    lemmas.update(dict.fromkeys(names, lemmas[resting[2]]))
-        return "; ".join(found) or None
 
     def first_fault(self) -> str:
         """The first line that tells a fault, or the last one."""
@@ -305,16 +268,12 @@ class Calls:
     def __init__(self, crate: str, kept: str) -> None:
         self.reached: dict[str, set[str]] = {}
         self.direct: dict[str, set[str]] = {}
-        head = f"Rattle-{crate}-proofs."
+        head, ending = f"Rattle-{crate}-proofs.", ".Code.oantt"
         called = re.compile(rf"^--@ import {re.escape(head)}(\S+)\.Symbol ", re.M)
-        for at, _, files in os.walk(kept):
-            for file in files:
-                if file.startswith(head) and file.endswith(".Code.oantt"):
-                    function = file.removeprefix(head).removesuffix(".Code.oantt")
-                    with open(os.path.join(at, file), encoding="utf-8", errors="replace") as code:
-                        found = called.findall(code.read())
-                    own = {it.replace(".", "::") for it in found} - {function.replace(".", "::")}
-                    self.direct[function.replace(".", "::")] = own
+        for path in Path(kept).rglob(f"{head}*{ending}"):
+            function = path.name.removeprefix(head).removesuffix(ending).replace(".", "::")
+            found = called.findall(path.read_text("utf-8", "replace"))
+            self.direct[function] = {it.replace(".", "::") for it in found} - {function}
 
     def reach(self, function: str) -> set[str]:
         if function not in self.reached:
@@ -349,7 +308,7 @@ class Checks:
             name = f"{self.logs}/{crate.name}.{next(self.count)}"
             with open(name, "w", encoding="utf-8") as file:
                 file.write(ran.stdout)
-        return Report(ran, crate.name)
+        return Report(ran, crate.name, os.path.join(crate.folder, PROOFS))
 
 
 class Trial:
@@ -359,109 +318,89 @@ class Trial:
         self.checks, self.crate, self.folder, self.name = checks, crate, crate.folder, crate.name
         self.seed = os.path.join(room, crate.name)
         with checks.turns:
-            link_folder(os.path.join(self.folder, KEPT), self.seed)
+            checks.rt.linked(os.path.join(self.folder, KEPT), self.seed)
             unedited = checks.run(crate, {}, [], self.seed)
-        self.is_proved, self.names = unedited.status == 0, unedited.proved()
-        self.sources, self.calls = dict(self.functions_of_sources()), Calls(self.name, self.seed)
-        self.controls: list[tuple[str, Function]] = []
-
-    def functions_of_sources(self) -> Iterator[tuple[str, list[Function]]]:
-        for at, _, names in os.walk(os.path.join(self.folder, "src")):
-            for path in (os.path.join(at, name) for name in names):
-                inside = os.path.relpath(path, self.folder)
-                yield inside, functions_in(read(path), inside)
+        if unedited.status != 0:
+            raise LostControl("it isn't proved as it stands: run rt check first")
+        self.names, self.calls = unedited.proved(), Calls(self.name, self.seed)
+        # Functions whose proofs accept the statement that does nothing, by the prover's names.
+        self.controls: dict[str, Item] = {}
 
     def over_copy(self, texts: dict[str, str], only: Iterable[str]) -> Report:
         """A check over a copy of what was kept, in its turn."""
         room = os.path.dirname(self.seed)
         with self.checks.turns, tempfile.TemporaryDirectory(dir=room) as own:
-            link_folder(self.seed, f"{own}/kept")
+            self.checks.rt.linked(self.seed, f"{own}/kept")
             return self.checks.run(self.crate, texts, only, f"{own}/kept")
 
     def functions_of(self, edit: Edit) -> frozenset[str]:
         """The functions whose bodies an edit changes; none where it changes anything else."""
-        changed = [self.function_of(change) for change in edit.changes]
-        return frozenset(it for it in changed if it) if all(changed) else frozenset()
+        changed = [proved_name(it, self.names) for it in grounds.tree().functions_of(edit)]
+        names = frozenset(filter(None, changed))
+        return names if all(changed) else frozenset()
 
-    def function_of(self, change: Change) -> str | None:
-        """The function in whose body a text is changed."""
-        at = read(os.path.join(self.folder, change.path)).find(change.old)
-        end = at + len(change.old)
-        functions = self.sources.get(change.path, [])
-        around = [it for it in functions if it.body <= at and end <= it.end]
-        inner = max(around, key=lambda it: it.body, default=None)
-        return proved_name(inner, self.names) if inner else None
-
-    def plantable(self) -> list[tuple[str, Function]]:
-        """Functions with their files: those first that have no proof file, whose answers a planted
+    def plantable(self) -> dict[str, Item]:
+        """Functions by their names: those first that have no proof file, whose answers a planted
         statement might no longer fit, and of these those that call no other."""
-        found = []
-        for path, functions in sorted(self.sources.items()):
-            for function in functions:
-                name = proved_name(function, self.names)
-                is_of_trait = " for " in function.owner or function.owner.startswith("trait")
-                if name and not is_of_trait:
-                    has_proof = folder_of(os.path.join(self.folder, "proofs"), name) is not None
-                    calls_one = bool(self.calls.direct.get(name, set()) & self.names)
-                    found.append((has_proof, calls_one, path, function))
-        return [(path, function) for *_, path, function in sorted(found, key=lambda it: it[:2])]
+        found: list[tuple[bool, bool, str, Item]] = []
+        for function in grounds.tree().crates[self.name].functions():
+            name, holder = proved_name(function, self.names), function.holder
+            is_of_trait = holder and (holder.sort == "trait" or parts_of_impl(holder.head)[0])
+            if name and function.brace is not None and not is_of_trait:
+                has_proof = folder_of(os.path.join(self.folder, PROOFS), name) is not None
+                calls_one = bool(self.calls.direct.get(name, set()) & self.names)
+                found.append((has_proof, calls_one, name, function))
+        return {name: function for *_, name, function in sorted(found, key=lambda it: it[:3])}
 
-    def planted(self, texts: dict[str, str], path: str, function: Function) -> dict[str, str]:
+    def planted(self, texts: dict[str, str], function: Item) -> dict[str, str]:
         """The texts with the statement that does nothing at the beginning of this function."""
-        text = texts.get(path) or read(os.path.join(self.folder, path))
-        now = functions_in(text, path)
-        same = [it for it in now if (it.owner, it.name) == (function.owner, function.name)]
+        path = os.path.relpath(function.module.path, self.folder)
+        text = texts.get(path) or read(function.module.path)
+        same = [it.brace for it in functions_of(text) if it.brace is not None
+                and (it.name, head_around(it)) == (function.name, head_around(function))]
         if len(same) != 1:
             raise LostControl(f"{function.name} stands in {path} {len(same)} times")
-        at = same[0].body + 1
+        at = same[0] + 1
         return {**texts, path: text[:at] + PLANTED + text[at:]}
 
     def find_controls(self) -> None:
         """Finds functions whose proofs accept the statement that does nothing."""
-        chosen = self.plantable()[:PLANTS]
+        chosen = dict(itertools.islice(self.plantable().items(), PLANTS))
         texts: dict[str, str] = {}
-        for path, function in chosen:
-            texts = self.planted(texts, path, function)
-        named = {str(proved_name(function, self.names)): (path, function)
-                 for path, function in chosen}
-        if not named:
-            raise LostControl("there is no function to plant a statement in that does nothing")
-        report = self.over_copy(texts, sorted(named))
-        self.controls = [named[it] for it in sorted(named) if report.is_proved(it)]
+        for function in chosen.values():
+            texts = self.planted(texts, function)
+        report = self.over_copy(texts, sorted(chosen)) if chosen else None
+        self.controls = {it: chosen[it] for it in sorted(chosen) if report and report.is_proved(it)}
         if not self.controls:
             raise LostControl("a statement that does nothing was refused wherever it was planted")
 
-    def control_beside(self, functions: set[str]) -> tuple[str, Function] | None:
-        """A control in a function that is none of these, and calls none of them."""
-        for path, function in self.controls:
-            name = str(proved_name(function, self.names))
-            if not functions & ({name} | self.calls.reach(name)):
-                return path, function
-        return None
+    def control_beside(self, functions: set[str]) -> str | None:
+        """A control that is none of these functions, and calls none of them."""
+        return next((name for name in self.controls
+                     if not functions & ({name} | self.calls.reach(name))), None)
 
-    def try_batch(self, batch: Batch) -> Iterator[Verdict | Unsettled]:
+    def try_batch(self, batch: Batch) -> list[Verdict | Unsettled]:
         """Tries edits of different functions in one check: the verdict on each that is refused, and
         each edit of which it says nothing."""
         functions = {name for _, names in batch for name in names}
-        texts = texts_with([edit for edit, _ in batch])
-        control = self.control_beside(functions)
-        planted = self.planted(texts, *control) if control else texts
-        name = str(proved_name(control[1], self.names)) if control else None
-        report = self.over_copy(planted, sorted(functions | ({name} if name else set())))
+        texts, control = texts_with([edit for edit, _ in batch]), self.control_beside(functions)
+        if control:
+            texts = self.planted(texts, self.controls[control])
+        report = self.over_copy(texts, sorted(functions | ({control} if control else set())))
         if not report.has_ended() and len(batch) > 1:
             half = len(batch) // 2
-            yield from self.try_batch(batch[:half])
-            yield from self.try_batch(batch[half:])
-            return
-        if report.has_ended() and name and not report.is_proved(name):
-            raise LostControl(f"{name} isn't proved with a statement that does nothing")
+            return self.try_batch(batch[:half]) + self.try_batch(batch[half:])
+        if report.has_ended() and control and not report.is_proved(control):
+            raise LostControl(f"{control} isn't proved with a statement that does nothing")
+        found: list[Verdict | Unsettled] = []
         for edit, names in batch:
-            once = [it for it in sorted(names) if len(report.said.get(it, [])) == 1]
-            reason = self.reason(report, once)
-            yield Verdict(edit, Outcome.REFUSED, reason) if reason else (edit, names)
+            reason = report.reason(it for it in sorted(names) if len(report.said.get(it, [])) == 1)
+            found.append(Verdict(edit, Outcome.REFUSED, reason) if reason else (edit, names))
+        return found
 
-    def try_alone(self, edit: Edit, functions: frozenset[str]) -> Verdict:
+    def try_alone(self, unsettled: Unsettled) -> Verdict:
         """Tries an edit by a whole check."""
+        edit, functions = unsettled
         report = self.over_copy(texts_with([edit]), [])
         if report.status == 0:
             return Verdict(edit, Outcome.PROVED, report.lines[-1])
@@ -469,18 +408,17 @@ class Trial:
             is_bad = any("error[" in line for line in report.lines)
             outcome = Outcome.NOT_COMPILED if is_bad else Outcome.NO_VERDICT
             return Verdict(edit, outcome, report.first_fault())
-        own: list[str | None] = [*sorted(functions)] or [None]
-        reason = self.reason(report, own)
-        if not reason and not functions and may_refute(edit):
-            reason = report.refuted(os.path.join(self.folder, "proofs"))
+        reason = report.reason(sorted(functions) or None)
+        if not functions and may_refute(edit):
+            reason = reason or "; ".join(report.refuted)
         if reason:
             return Verdict(edit, Outcome.REFUSED, f"{reason} (whole check)")
         return Verdict(edit, Outcome.UNEXPLAINED, report.first_fault())
 
-    def reason(self, report: Report, functions: Iterable[str | None]) -> str | None:
-        """Why one of these functions isn't proved, or where it is None any function."""
-        proofs = os.path.join(self.folder, "proofs")
-        return next(filter(None, (report.reason(it, proofs) for it in functions)), None)
+
+def head_around(function: Item) -> str:
+    """The head of the impl or the trait around a function, or nothing."""
+    return function.holder.sort + function.holder.head if function.holder else ""
 
 
 def may_refute(edit: Edit) -> bool:
@@ -518,24 +456,15 @@ def try_edits(trial: Trial, edits: list[Edit]) -> Iterator[Verdict]:
     alone = [it for it in every if not it[1]]
     trial.find_controls()
     batches = batches_of([it for it in every if it[1]], trial.calls)
-    print(f"{trial.name}: {len(edits)} edits, {len(batches)} checks, {len(alone)} alone", flush=True)
-    pool = ThreadPoolExecutor(trial.checks.jobs)
-
-    def begun(one: Unsettled) -> Future[list[Verdict | Unsettled]]:
-        return pool.submit(lambda: [trial.try_alone(*one)])
-
-    try:
-        going = {pool.submit(lambda it: list(trial.try_batch(it)), it) for it in batches}
-        going |= set(map(begun, alone))
-        while going:
-            done, going = wait(going, return_when=FIRST_COMPLETED)
-            for found in (it for check in done for it in check.result()):
-                if isinstance(found, Verdict):
-                    yield found
-                else:
-                    going.add(begun(found))
-    finally:
-        pool.shutdown(cancel_futures=True)
+    counts = f"{len(edits)} edits, {len(batches)} checks, {len(alone)} alone"
+    print(f"{trial.name}: {counts}", flush=True)
+    with ThreadPoolExecutor(trial.checks.jobs) as pool:
+        for found in itertools.chain.from_iterable(pool.map(trial.try_batch, batches)):
+            if isinstance(found, Verdict):
+                yield found
+            else:
+                alone.append(found)
+        yield from pool.map(trial.try_alone, alone)
 
 
 def edits_asked(crate: str, wanted: set[str], has_must_fail: bool) -> list[Edit]:
@@ -564,10 +493,6 @@ class Refusals:
                       and grounds.why_stale(self.record, self.edits[name]) is None}
         self.write()
 
-    def has(self, edit: Edit) -> bool:
-        """Whether an edit was refused."""
-        return edit.name in self.found
-
     def add(self, edit: Edit) -> None:
         self.added[edit.name] = line_of(edit)
         self.write()
@@ -581,7 +506,8 @@ class Refusals:
         """Whether the crate is as it was before, and what the refusals rest on."""
         edits = [self.edits[name] for name in self.added]
         before = grounds.whole(self.crate), [line_of(edit) for edit in edits]
-        forget_sources()
+        grounds.tree.cache_clear()
+        grounds.whole.cache_clear()
         return before == (grounds.whole(self.crate), [line_of(edit) for edit in edits])
 
     def write(self) -> None:
@@ -589,10 +515,7 @@ class Refusals:
         day = datetime.date.today().isoformat() if self.added else self.record.day
         lines = self.found | self.added
         kit = self.record.kit if self.found else grounds.kit_version()
-        if lines and self.has_folder:
-            editing.write_record(self.crate, Record(day, kit, lines))
-        else:
-            editing.remove_record(self.crate)
+        editing.write_record(self.crate, Record(day, kit, lines if self.has_folder else {}))
 
 
 def line_of(edit: Edit) -> Line:
@@ -600,57 +523,40 @@ def line_of(edit: Edit) -> Line:
     return Line(editing.checksum_of(edit), grounds.tree().checksum(edit))
 
 
-def forget_sources() -> None:
-    """Lets the sources be read anew."""
-    grounds.tree.cache_clear()
-    grounds.whole.cache_clear()
-
-
 def try_crate(trial: Trial, edits: list[Edit], kept: Refusals) -> list[str]:
     """Tries edits of a crate, and returns those that aren't refused by their reasons."""
-    if not trial.is_proved:
-        return failed(trial.name, "it isn't proved as it stands: run rt check first")
-    seen: list[Edit] = []
-    missed: list[str] = []
-    try:
-        for verdict in try_edits(trial, edits):
-            print(verdict, flush=True)
-            seen.append(verdict.edit)
-            if verdict.outcome is Outcome.REFUSED:
-                kept.add(verdict.edit)
-            else:
-                missed.append(str(verdict.edit))
-    except LostControl as why:
-        kept.take_back()
-        return failed(trial.name, f"LOST CONTROL: {why}")
-    if sorted(map(str, seen)) != sorted(map(str, edits)):
-        return failed(trial.name, f"{len(edits)} edits, and {len(seen)} verdicts")
-    return missed
-
-
-def failed(crate: str, why: str) -> list[str]:
-    """Says why nothing is known of a crate's edits, and returns what wasn't refused: its name."""
-    print(f"{crate}: {why}", flush=True)
-    return [crate]
+    verdicts: list[Verdict] = []
+    for verdict in try_edits(trial, edits):
+        print(verdict, flush=True)
+        verdicts.append(verdict)
+        if verdict.outcome is Outcome.REFUSED:
+            kept.add(verdict.edit)
+    if sorted(str(it.edit) for it in verdicts) != sorted(map(str, edits)):
+        raise LostControl(f"{len(edits)} edits, and {len(verdicts)} verdicts")
+    return [str(it.edit) for it in verdicts if it.outcome is not Outcome.REFUSED]
 
 
 def try_rest(checks: Checks, crate: Any, edits: list[Edit], is_anew: bool) -> list[str]:
     """Tries those edits of a crate that an earlier try didn't refuse, and returns those that aren't
-    refused now either."""
+    refused now either; or the crate itself, where nothing is known of its edits."""
     kept = Refusals(crate.name, edits if is_anew else [])
-    left = [edit for edit in edits if not kept.has(edit)]
+    left = [edit for edit in edits if edit.name not in kept.found]
     if len(left) < len(edits):
         count, day = len(edits) - len(left), kept.record.day
         print(f"{crate.name}: {count} edits were refused before, by {day}")
     if not left:
         return []
-    if not os.path.isdir(os.path.join(crate.folder, KEPT)):
-        return failed(crate.name, "no check of it is kept: run rt check first")
-    with tempfile.TemporaryDirectory(prefix="try-edits-") as room:
-        missed = try_crate(Trial(checks, crate, room), left, kept)
-    if not kept.are_of_sources():
+    try:
+        if not os.path.isdir(os.path.join(crate.folder, KEPT)):
+            raise LostControl("no check of it is kept: run rt check first")
+        with tempfile.TemporaryDirectory(prefix="try-edits-") as room:
+            missed = try_crate(Trial(checks, crate, room), left, kept)
+        if not kept.are_of_sources():
+            raise LostControl("it was changed meanwhile, or a crate below it")
+    except LostControl as why:
         kept.take_back()
-        return failed(crate.name, "it was changed meanwhile, or a crate below it")
+        print(f"{crate.name}: LOST CONTROL: {why}", flush=True)
+        return [crate.name]
     return missed
 
 

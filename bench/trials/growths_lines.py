@@ -178,6 +178,8 @@ class Runs:
         return came == {False, True} or not are_there
 
 
+# What is sent, as growths.txt says: further questions, what comes again, and lines for little room.
+_, *ASKED = Path(__file__).with_name("growths.txt").read_text("utf-8").split("\n\n")
 # The lines of the demonstration: those that change the store, with a merge that is given up, and
 # with a second step, of more than one row, since a step that is refused behind it gives back its
 # own rows alone; and what it asks then.
@@ -186,42 +188,8 @@ SAID = [line[2:] for line in (FOLDER / "demonstration.txt").read_text("utf-8").s
 CHANGES = SAID[: SAID.index("0 PUBLISH") + 1]
 CHANGES[CHANGES.index("0 MERGE") : CHANGES.index("0 STEP 1") + 1] = [
     "0 MERGE", "0 ABANDON", "0 MERGE", "0 STEP 1", "0 STEP 2"]
-# Lines that are refused, and further questions.
-MORE = """1 UNPIN
-1024 STATUS
-0 STATU
-0 STEP 0
-0 ABANDON
-0 TRIM
-0 PAGE C 20200131 - 2
-0 ABOUT D 1000004 20210131
-0 ABOUT R 1000004 20200131
-0 ABOUT R 1000004 20210131
-0 ABOUT A 1000004 20210131
-0 SEARCH 20200131 - 10 STRASS
-0 WORDS 20200131 - 0 10 STRA
-0 SOURCES 116680003 138875005 20210131 - 10
-0 ROWS D - - 10
-0 ADDED 2 C - - 10
-0 RECEIPT 2
-0 DELTA C 20200131 20210131 - 10
-0 DELTA D 20200131 20210131 - 10
-0 TIMELINE D 1000004
-0 TIMELINE R 1000004
-0 ANCESTORS 1000004 20200131
-0 ANCESTORS 1000004 20210131
-0 DESCENDANTS 138875005 20210131
-0 REPLACES 2000001 20210131
-0 DATES
-0 AT 1 DATES
-0 CHECK r2
-0 DIGEST"""
-QUESTIONS = SAID[SAID.index("0 PUBLISH") + 1 :] + MORE.split("\n")
-# A release that was imported before, which has no new rows, and the merge of what is left; and a
-# package with members of reference sets.
-AGAIN = ["0 IMPORT r1", "0 MERGE", "0 STEP 100", "0 PUBLISH", "0 TRIM", "0 IMPORT whole",
-         "0 MEMBERS 900000000000509007 20210131 - 10", "0 VALUES 900000000000509007 20210131 - 3",
-         "0 CALLED 2000001 20200630 900000000000509007"]
+MORE, AGAIN = ASKED[0].splitlines(), ASKED[1].splitlines()
+QUESTIONS = SAID[SAID.index("0 PUBLISH") + 1 :] + MORE
 FOLDERS = {"whole": TOP / "docs" / "package" / "Full",
            **{folder.name: folder for folder in RELEASES.iterdir()}}
 

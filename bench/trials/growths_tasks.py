@@ -2,20 +2,21 @@
 
 import re
 from collections import Counter
+from collections.abc import Iterator, Mapping
 from pathlib import Path
-from typing import Mapping, NamedTuple, Optional
+from typing import NamedTuple
 
 from growths_harness import (ALL_BEHIND, DISK_FAULT, OUT_OF_MEMORY, Program, Refusals, told,
                              try_each, ways_to_be_refused)
+from growths_lines import ASKED
 from harness import RELEASES, Place, Ran, Wrong, replies_in
 
 # The files in a folder, by their names.
 Files = Mapping[str, bytes]
 
 STORE, COPY = "store", "copy"
-# The stores that are made before: the first two releases in layout 2 and in layout 3, and all three
-# in layout 2.
-TWO, TWO_OF_THREE, THREE = "two", "two, in layout 3", "three"
+# The stores that are made before, with their layouts and how many releases are imported.
+STORES = (("two", "2", 2), ("two-in-layout-3", "3", 2), ("three", "2", 3))
 NONE: Files = {}
 # Of the runs in which all requests are refused from one on, each one with so many in between.
 STEP = 10
@@ -30,40 +31,23 @@ LAST_DIGEST, NO_DIGEST = re.compile(rb"\t[0-9a-f]{64}\t([^\t]*\n)\Z"), rb"\t-\t\
 
 
 class Task(NamedTuple):
-    """The words of a run, the store that it begins with, its input, its status with all memory."""
+    """The words of a run, its input, the store that it begins with, its status with all memory."""
 
     words: str
-    store: Optional[str] = None
     given: str = ""
+    store: str = ""
     status: int = 0
 
     def command(self) -> str:
         return self.words.partition(" ")[0]
 
 
-TASKS = (
-    Task("init --store store"),
-    Task("import --store store --releases ../releases r3", TWO),
-    Task("import --quiet --store store ../releases/r3", TWO_OF_THREE),
-    Task("import --check --store store ../releases/r3", TWO_OF_THREE),
-    Task("status --store store", THREE),
-    Task("merge --store store --segments 1", THREE),
-    Task("copy --store store --to copy", THREE),
-    Task("copy --store store --to copy --imports 1", THREE),
-    Task("prepare --quiet --to store ../releases/r3"),
-    Task("digest --store store", THREE),
-    Task("copy --store store --to copy --layout 3", THREE),
-    Task("serve --store store --releases ../releases", THREE,
-         "0 STATUS\n0 PIN\n0 RECEIPT 1\n0 UNPIN\n0 TRIM\n"),
-    # Words that are no task.
-    Task("", status=2),
-    Task("shelve", status=2),
-    Task("init", status=2),
-    Task("init --store a --store b", status=2),
-    Task("import --store a --releases b", status=2),
-    Task("--help"),
-    Task("import --help"))
-DEMO = Task("demo")
+def tasks() -> Iterator[Task]:
+    """The tasks that growths.txt has."""
+    for text in ASKED[3].splitlines():
+        status, store, words = f"{text} ".split(" ", 2)
+        words, _, given = words.strip().partition(" < ")
+        yield Task(words, given.replace("; ", "\n") + "\n" * bool(given), store, int(status))
 
 
 def files_in(folder: Path) -> Files:
@@ -84,10 +68,10 @@ def put(folder: Path, files: Files) -> None:
         (folder / name).write_bytes(data)
 
 
-def stores_in(program: Program, folder: Path) -> dict[Optional[str], Files]:
-    made: dict[Optional[str], Files] = {None: NONE}
+def stores_in(program: Program, folder: Path) -> dict[str, Files]:
+    made = {"-": NONE}
     here = Place(program.program, folder)
-    for name, layout, releases in ((TWO, "2", 2), (TWO_OF_THREE, "3", 2), (THREE, "2", 3)):
+    for name, layout, releases in STORES:
         put(folder, NONE)
         here.done("init", "--layout", layout, "--store", STORE)
         for number in range(1, releases + 1):
@@ -135,6 +119,11 @@ class Trial:
         folder = self.place(place)
         put(folder, self.before)
         ran, was_refused = self.program.run(self.words, folder, self.task.given, refusals)
+        self.check(ran, folder, was_refused)
+        return was_refused
+
+    def check(self, ran: Ran, folder: Path, was_refused: bool) -> None:
+        """Looks if it was done, or refused as it has to be, and what it left."""
         left = files_in(folder)
         if ran.status == self.whole.status and ran.output == self.whole.output:
             self.ends["done" if was_refused else "whole"] += 1
@@ -144,7 +133,6 @@ class Trial:
             self.check_refused(ran, left, folder)
         else:
             raise Wrong(told(ran))
-        return was_refused
 
     def check_done(self, ran: Ran, left: Files) -> None:
         if certain_faults(ran.faults, ran.faults) != certain_faults(self.whole.faults, ran.faults):
@@ -236,8 +224,8 @@ def are_right(program: Program, folder: Path) -> bool:
     made.mkdir()
     stores = stores_in(program, made)
     is_right = True
-    for task in (*TASKS, DEMO):
-        kind = Demonstration if task == DEMO else Trial
+    for task in tasks():
+        kind = Demonstration if task.words == "demo" else Trial
         try:
             trial = kind(program, work, task, stores[task.store])
             trial.all_runs()

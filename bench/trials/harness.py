@@ -244,16 +244,14 @@ class Place:
         return ran.output.rstrip("\n")
 
     def refuses(self, words: Sequence[str | Path], reply: str, why: str,
-                warned: Sequence[str] = (), around: Mapping[str, str] | None = None,
                 before: Callable[[], object] | None = None) -> None:
-        """A call that has to be refused by this reply, with this in its only line for people, or
-        behind a line for each warning, which begins so. All files stay as they were."""
+        """A call that has to be refused by this reply, with this in its only line for people. All
+        files stay as they were."""
         there = self.contents()
-        ran = self.run(*words, around=around, before=before)
+        ran = self.run(*words, before=before)
         same("what is answered", ran[:2], (1, reply + "\n"))
-        *warnings, last = ran.faults.splitlines() or [""]
-        is_told = last.startswith("sctd: ") and why in last + "\n" and len(warnings) == len(warned)
-        if not (is_told and all(map(str.startswith, warnings, warned))):
+        is_told = ran.faults.startswith("sctd: ") and why in ran.faults
+        if not is_told or len(ran.faults.splitlines()) > 1:
             raise Wrong(f"{ran.faults!r}, not {why!r}")
         same("whether a file was changed", self.contents() == there, True)
 
@@ -413,6 +411,7 @@ class Hub:
     def __init__(self, place: Place, store: Path | str, *words: str | Path,
                  path: Path | None = None, releases: Path = RELEASES, before: Sequence[str] = (),
                  umask: int = -1, asks: bool = False, has_own: bool = True) -> None:
+        self.place = place
         self.socket, self.questions = path or place.path("hub"), place.path("questions")
         self.faults, self.clients = place.path("faults"), list[Client]()
         command: list[Path | str] = [
@@ -454,15 +453,14 @@ class Hub:
         """One on the socket for questions."""
         return self.asker()
 
-    def client(self) -> Client:
-        """A client on the socket of its owner."""
-        self.clients.append(Client(self.socket))
+    def client(self, path: Path | None = None) -> Client:
+        """A client on the socket of its owner, or on another one."""
+        self.clients.append(Client(path or self.socket))
         return self.clients[-1]
 
     def asker(self) -> Client:
         """A client on the socket for questions."""
-        self.clients.append(Client(self.questions))
-        return self.clients[-1]
+        return self.client(self.questions)
 
     def programs(self) -> list[int]:
         """The processes that it has started."""

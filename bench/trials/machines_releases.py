@@ -7,23 +7,17 @@ import sys
 from functools import cache
 from pathlib import Path
 
-from harness import TOP as TREE, write_release
+from harness import TOP as TREE, concept, concept_id, description, write_release
+import make_release as rf2
 
 sys.path.append(str(TREE / "service"))
-from tests.demo_releases import (  # noqa: E402
-    CASE_INSENSITIVE, COLUMNS, CORE, FULLY_SPECIFIED, INFERRED, IS_A, MODIFIER, PRIMITIVE, ROOT,
-    SYNONYM)
 from tests.release_files import Rows  # noqa: E402
-from make_release import sctid  # noqa: E402
 
 CONCEPTS = 12
-FIRST_YEAR = 2001
-MONTHS, FIRST_ITEM = 12, 2000
-TOP = ROOT
-CODES = [str(sctid(FIRST_ITEM + place, "00")) for place in range(CONCEPTS)]
+FIRST_YEAR, MONTHS = 2001, 12
+TOP = str(rf2.ROOT)
+CODES = [str(concept_id(place)) for place in range(1, CONCEPTS + 1)]
 WORDING = re.compile(r"wording ([0-9]+)")
-
-Columns = list[str]
 
 
 def day_of(number: int) -> str:
@@ -41,39 +35,31 @@ def wording_of(text: str) -> list[str]:
     return WORDING.findall(text)
 
 
-def description(item: int, day: str, code: str, kind: str, term: str) -> Columns:
-    name = str(sctid(item, "01"))
-    return [name, day, "1", CORE, code, "en", kind, term, CASE_INSENSITIVE]
-
-
-def release(number: int) -> dict[str, list[Columns]]:
-    day, found = day_of(number), dict[str, list[Columns]]((kind, []) for kind in COLUMNS)
-    codes = [TOP, *CODES]
-    for place, code in enumerate(codes):
-        term = "Thing %d, wording %d (finding)" % (place, number)
-        found["D"].append(description(FIRST_ITEM + place, day, code, FULLY_SPECIFIED, term))
-    late = CODES[number % CONCEPTS]
+def release(number: int) -> dict[str, list[str]]:
+    day, late = day_of(number), number % CONCEPTS + 1
+    found = {"D": [
+        description(place, int(code), "Thing %d, wording %d (finding)" % (place, number), day,
+                    rf2.FULLY_SPECIFIED) for place, code in enumerate([TOP, *CODES])]}
     found["D"].append(description(
-        FIRST_ITEM * 2 + number, day_of(1), late, SYNONYM, "Late term of release %d" % number))
-    if number == 1:
-        found["C"] = [[code, day, "1", CORE, PRIMITIVE] for code in codes]
-        found["R"] = [[str(sctid(FIRST_ITEM + place, "02")), day, "1", CORE, code, TOP, "0", IS_A,
-                       INFERRED, MODIFIER] for place, code in enumerate(CODES)]
-    else:
-        is_active = str(number // CONCEPTS % 2)
-        found["C"] = [[late, day, is_active, CORE, PRIMITIVE]]
-    return found
+        2 * CONCEPTS + number, concept_id(late), "Late term of release %d" % number, day_of(1)))
+    if number > 1:
+        return found | {"C": [concept(late, day, number // CONCEPTS % 2)]}
+    top = "\t".join(map(str, [TOP, day, 1, rf2.CORE, rf2.PRIMITIVE]))
+    below = [[rf2.sctid(1_000 + place, "02"), day, 1, rf2.CORE, code, TOP, 0, rf2.IS_A,
+              rf2.INFERRED, rf2.MODIFIER] for place, code in enumerate(CODES)]
+    return found | {"C": [top, *(concept(place, day) for place in range(1, CONCEPTS + 1))],
+                    "R": ["\t".join(map(str, row)) for row in below]}
 
 
 @cache
 def rows_of(pin: int) -> Rows:
     """All rows of the first so many releases, as they were published."""
-    before = rows_of(pin - 1).by_kind if pin else {kind: [] for kind in (*COLUMNS, "M")}
+    before = rows_of(pin - 1).by_kind if pin else {kind: [] for kind in (*rf2.KINDS, "M")}
     new = release(pin) if pin else {}
-    return Rows({kind: [*rows, *new.get(kind, [])] for kind, rows in before.items()})
+    return Rows({kind: [*rows, *(row.split("\t") for row in new.get(kind, []))]
+                 for kind, rows in before.items()})
 
 
 def write(folder: Path, count: int) -> None:
     for number in range(1, count + 1):
-        rows = {kind: ["\t".join(row) for row in found] for kind, found in release(number).items()}
-        write_release(folder / f"r{number}", rows, day_of(number))
+        write_release(folder / f"r{number}", release(number), day_of(number))

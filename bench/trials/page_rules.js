@@ -101,6 +101,7 @@ const lightOfPage = () => light(behind(document.body));
 
 const allRows = () => all(".compared tbody tr").length;
 const shownRows = () => all(".compared tbody tr").filter(one => one.checkVisibility()).length;
+const saidOfRows = () => `Only what differs: ${shownRows()} of ${allRows()} rows`;
 
 // Where the cells of the first row of a table stand: the second at the side of the first or below.
 const places = () => {

@@ -4,6 +4,7 @@ with its configuration in packaging/."""
 import contextlib
 import http.client
 import os
+import random
 import re
 import shutil
 import signal
@@ -12,11 +13,13 @@ import ssl
 import subprocess
 import sys
 import tempfile
+import threading
+import time
 from collections.abc import Iterator, Mapping, Sequence
 from pathlib import Path
 from typing import NamedTuple, Optional
 
-from harness import NotRun, Wrong, children, same, until
+from harness import NotRun, Threads, Wrong, children, same, until
 
 ROOT = Path(__file__).resolve().parents[2]
 SERVICE = ROOT / "service"
@@ -27,22 +30,14 @@ from needs import python_with  # noqa: E402
 SECONDS = 60
 # How often it is looked whether something is as it is waited for.
 LOOK_SECONDS = 0.05
+# How long a client waits until it asks again, and how many faults are told.
+BETWEEN_SECONDS, TOLD = 0.03, 5
 HOST = "127.0.0.1"
 NAME = "terms.example.org"
 OPENSSL = "openssl"
 USER = "Smith, Alice"
 EDITION, LANGUAGE = first_look.EDITION, first_look.LANGUAGE
-MAIN = """daemon off;
-pid %(place)s/nginx.pid;
-error_log %(place)s/error.log;
-worker_processes 1;
-events {}
-http {
-%(paths)s
-include %(place)s/sctd.conf;
-}
-"""
-PATHS = ("client_body", "proxy", "fastcgi", "uwsgi", "scgi")
+MAIN = Path(__file__).with_name("nginx_of_trials.conf")
 # How a gateway and the folder of certificates stand in a configuration, and what only root may do.
 GATEWAY = re.compile(r"127\.0\.0\.1:808([1-9])\b")
 CERTIFICATES = "/etc/sctd/tls"
@@ -142,10 +137,10 @@ class Proxy:
 
     def start(self) -> None:
         (self.place / "sctd.conf").write_text(self.replaced(), encoding="utf-8")
-        paths = "\n".join("%s_temp_path %s/%s;" % (name, self.place, name) for name in PATHS)
-        main = self.place / "nginx.conf"
-        main.write_text(MAIN % {"place": self.place, "paths": paths}, encoding="utf-8")
-        words = self.kind.words % {"place": self.place}
+        named = {"place": self.place}
+        main = MAIN.read_text("utf-8") % named
+        (self.place / "nginx.conf").write_text(main, encoding="utf-8")
+        words = self.kind.words % named
         # (What has no folder of logs logs to its output.)
         output = self.place / ("log" if self.kind.logs else "sctd.log")
         with open(output, "ab") as to, open(self.place / "log", "ab") as faults:
@@ -210,6 +205,40 @@ class Client:
         answer = self.connection.getresponse()
         headers = {name.lower(): value for name, value in answer.getheaders()}
         return answer.status, headers, answer.read()
+
+
+class Asking(Threads):
+    """Clients that ask until they are told to end, and each so often at least."""
+
+    def __init__(self, proxy: Proxy, count: int, least: int = 0) -> None:
+        super().__init__(count, self.ask_all)
+        self.proxy, self.least, self.lock = proxy, least, threading.Lock()
+        # How often all have asked, how many connections were made again, and what isn't right.
+        self.asked, self.again, self.faults = 0, 0, list[str]()
+
+    def ask_all(self, seed: int) -> None:
+        client, chance, asked = Client(self.proxy, self.proxy.user), random.Random(seed), 0
+        while not self.is_over or asked < self.least:
+            try:
+                self.ask(client, chance)
+            except Exception as why:  # A fault of the trial ends it, too.
+                self.faults.append("a client: %r" % why)
+                raise
+            asked += 1
+            with self.lock:
+                self.asked += 1
+            time.sleep(BETWEEN_SECONDS)
+        with self.lock:
+            self.again += client.again
+
+    def ask(self, client: Client, chance: random.Random) -> None:
+        """Asks once, and notes what isn't right."""
+        raise NotImplementedError
+
+    def look(self) -> None:
+        """Nothing was noted."""
+        same("how many were answered otherwise, and the first of these",
+             (len(self.faults), self.faults[:TOLD]), (0, []))
 
 
 @contextlib.contextmanager

@@ -15,7 +15,7 @@ refused at its start leaves the store as it was. In each tenth run the line that
 second time: then it is answered. In further runs from each seventh call on 40 in a row are refused,
 and from each tenth on all. With `tasks` each task of the command line is done so, and so are words
 that are none, and helps. With `room` each call of the store is made by a line that has room for no
-byte of memory, then for 16 bytes, and so on until it isn't refused; and so a store is made, and
+byte of memory, then for 8 bytes, and so on until it isn't refused; and so a store is made, and
 opened. Each is wanted to be refused so many times. It needs Linux, glibc and a C compiler. Where
 there is /dev/shm its files lie there, since syncs take most of the time otherwise.
 """

@@ -18,28 +18,22 @@ import subprocess
 import sys
 import tempfile
 import time
-import uuid
+from collections import Counter
 from collections.abc import Callable, Sequence
 from pathlib import Path
-from typing import Optional
+from typing import NamedTuple, Optional
 
 from harness import NOT_RUN, Place, Server, Wrong, parser_of, same, tell
 from soak_model import CONCEPT, DESTINATION, KINDS, REFERENCED, REFSET, SUBJECTS, TARGET, TERM
-from soak_model import TYPE
-from soak_model import Columns, Fault, File, Model, State, publications
+from soak_model import TYPE, Columns, Fault, File, Model, Reply, State, publications
 import make_release as rf2  # harness.py looks for it.
 
 DATES = ["%d%s31" % (year, month) for year in range(2015, 2026) for month in ("01", "07")]
 LAST_DATE = "99991231"
-# What is asked of some concepts at the end, and how often.
-AROUND = ("ANCESTORS", "DESCENDANTS", "REPLACED", "REPLACES")
-ASKED_AROUND = 200
-# The questions of members that have to be answered by a row, each with what is counted.
-ANSWERED = {"members_answered": "MEMBERS", "values_answered": "VALUES", "called_answered": "CALLED"}
-# What else is counted.
-COUNTED = """openings kills_in_openings kills_in_batches lines imports imports_cut_kept
-imports_cut_lost publications publications_cut_kept publications_cut_lost trims dumps
-seconds_refused copies copies_cut releases_again""".split()
+# How many concepts are asked at the end what is around them, and how many lines are sent at once.
+ASKED_AROUND, LINES_AT_ONCE = 200, 50
+# The questions of members that have to be answered by a row, which is counted.
+ANSWERED = ("MEMBERS", "VALUES", "CALLED")
 # How many members of a reference set are asked for at a time.
 MEMBERS_AT_ONCE = 50
 # How long a reply may take, and a program that ends by itself.
@@ -67,15 +61,19 @@ UNKEPT = "StatedRelationship"
 SORTS = {**rf2.BASIC_SORTS, **rf2.FURTHER_SORTS, **ODD_SORTS, UNKEPT: rf2.UNKEPT_SORTS[UNKEPT],
          OTHER_ASSOCIATIONS: rf2.BASIC_SORTS["A"]._replace(
              name="Refset/More/der2_cRefset_AssociationOther{}_INT_{}.txt")}
+# The sorts of a package that rows of the others are made like.
+LIKE = {UNKEPT: "R", OTHER_ASSOCIATIONS: "A", **dict.fromkeys(ODD_SORTS, "Simple")}
 # Of which sorts rows are made, each as likely as another.
 DRAWN = [*"CCDDDDRRRRAV", *["Language"] * 4, *SORTS]
 # What may stand in a further column that no package has.
 ODD_TEXTS = ("", "", "0", "x", "Straße", "a b ", "#5", "\r", "\ufeff", "TRUE | IFA", "-")
-# How much of what a member says is changed in a release that is faulty: the column, its new text,
-# and how that is refused. None stands for a column that is left out.
-SPOILED = ((None, "", "23 Columns"), (0, "0b6a0c2e5d0f4c539f6e8d9d2a7b1c01", "30 MemberId"),
-           (1, "20201301", "26 Time"), (2, "2", "27 Active"), (REFSET, "1000015", "28 Reference"),
-           (REFERENCED, "1000005", "28 Reference"))
+# What is wrong with a row of a faulty release: its column with its new text, or none where the last
+# column is left out, and how that is refused.
+SPOILED = {
+    "C": ((0, "1000005", "24 Id"),),
+    "M": ((None, "", "23 Columns"), (0, "0b6a0c2e5d0f4c539f6e8d9d2a7b1c01", "30 MemberId"),
+          (1, "20201301", "26 Time"), (2, "2", "27 Active"), (REFSET, "1000015", "28 Reference"),
+          (REFERENCED, "1000005", "28 Reference"))}
 
 
 # What is asked, each form behind how often it is.
@@ -101,6 +99,10 @@ FORMS = """4 GET {kind} {id} {date}
 2 SOURCES {links} {date} {after_C} {limit}
 1 ROWS {kind} {key} {limit}
 1 ADDED {import} {kind} {key} {limit}"""
+# What is asked of some concepts at the end.
+AROUND = [f"{word} {{C}} {{date}}" for word in ("ANCESTORS", "DESCENDANTS", "REPLACED", "REPLACES")]
+AROUND += [f"TIMELINE {kind} {{C}}" for kind in SUBJECTS]
+AROUND += [f"CALLED {{C}} {{date}} {language}" for language in rf2.LANGUAGES]
 QUESTIONS = [form for line in FORMS.split("\n") for form in [line[2:]] * int(line[0])]
 
 
@@ -116,6 +118,25 @@ def is_written(sort: str, rows: dict[str, list[Columns]]) -> bool:
     return sort in rf2.BASIC_SORTS or bool(rows[sort])
 
 
+class Edition(rf2.Edition):
+    """An edition with members of other columns, and with files that no package has."""
+
+    def __init__(self, seed: int) -> None:
+        super().__init__(seed)
+        self.made.update({sort: [] for sort in SORTS})
+
+    def name(self, sort: str) -> object:
+        return super().name(LIKE.get(sort, sort))
+
+    def body(self, sort: str) -> list[object]:
+        if sort not in ODD_SORTS:
+            return super().body(LIKE.get(sort, sort))
+        count = int(sort.removeprefix("Odd"))
+        texts = [self.random.choice(ODD_TEXTS) for _ in range(count)]
+        refset = self.random.choice([*rf2.VALUE_SETS, rf2.US_ENGLISH])
+        return [refset, self.a_description() if count else self.a_concept(), *texts]
+
+
 class Releases:
     """Random releases, written as folders."""
 
@@ -123,30 +144,11 @@ class Releases:
         self.chance, self.folder = chance, folder
         # A server wants a folder to look in, also before there is a release.
         os.makedirs(folder, exist_ok=True)
-        self.edition = rf2.Edition(chance.getrandbits(32))
-        self.edition.made.update({sort: [] for sort in SORTS})
+        self.edition = Edition(chance.getrandbits(32))
+        # The rows that were written, and what each first said, by its identifier and date.
         self.lines: dict[str, list[Columns]] = {sort: [] for sort in SORTS}
         self.known: dict[tuple[str, str], Columns] = {}
         self.files: dict[str, list[File]] = {}
-
-    def body(self, sort: str) -> list[object]:
-        """What a row of a sort says behind its first four columns."""
-        if sort not in ODD_SORTS:
-            return self.edition.body({UNKEPT: "R", OTHER_ASSOCIATIONS: "A"}.get(sort, sort))
-        count = int(sort.removeprefix("Odd"))
-        texts = [self.chance.choice(ODD_TEXTS) for _ in range(count)]
-        refset = self.chance.choice([*rf2.VALUE_SETS, rf2.US_ENGLISH])
-        referenced = self.edition.a_description() if count else self.edition.a_concept()
-        return [refset, referenced, *texts]
-
-    def component(self, sort: str) -> rf2.Component:
-        if sort in rf2.BASIC_SORTS or sort in rf2.FURTHER_SORTS:
-            return self.edition.component(sort)
-        name = (self.edition.name("R") if sort == UNKEPT
-                else str(uuid.UUID(int=self.chance.getrandbits(128))))
-        made = rf2.Component(name, sort, self.body(sort))
-        self.edition.made[sort].append(made)
-        return made
 
     def columns(self, sort: str) -> Columns:
         """A new component, a new version of one, or a row that was written before. A new version
@@ -154,11 +156,11 @@ class Releases:
         what, made = self.chance.random(), self.edition.made[sort]
         if what < 0.15 and self.lines[sort]:
             return self.chance.choice(self.lines[sort])
-        component = self.component(sort)
+        component = self.edition.component(sort)
         if what < 0.55 and len(made) > 1:
             made.pop()
             component = self.chance.choice(made)
-        body = self.body(sort) if what < 0.3 else None
+        body = self.edition.body(sort) if what < 0.3 else None
         active = self.chance.choice([1, 1, 1, 0])
         return rf2.line(component, self.chance.choice(DATES), active, body).split("\t")
 
@@ -169,8 +171,10 @@ class Releases:
         for _ in range(self.chance.choice([0, 1, 5, 20, 60, 200])):
             sort = self.chance.choice(DRAWN)
             rows[sort].append(self.columns(sort))
+        consistent = {sort: [columns for columns in rows[sort] if columns == self.known.setdefault(
+            (columns[0], columns[1]), columns)] for sort in SORTS}
         if self.chance.random() < 0.9:
-            rows = {sort: self.consistent(rows[sort]) for sort in SORTS}
+            rows = consistent
         faults = self.spoil(rows) if self.chance.random() < 0.1 else {}
         self.write(name, rows)
         self.files[name] = [
@@ -179,7 +183,6 @@ class Releases:
         if not faults:
             for sort in SORTS:
                 self.lines[sort] += rows[sort]
-                self.known.update({(columns[0], columns[1]): columns for columns in rows[sort]})
         return name
 
     def write(self, name: str, rows: dict[str, list[Columns]]) -> None:
@@ -201,29 +204,14 @@ class Releases:
         columns = " ".join([rf2.MEMBER_COLUMNS, *names])
         return SORTS[sort]._replace(columns=columns)
 
-    def consistent(self, rows: list[Columns]) -> list[Columns]:
-        """Without the rows that say otherwise than one that was written before."""
-        kept: list[Columns] = []
-        here: dict[tuple[str, str], Columns] = {}
-        for columns in rows:
-            key = (columns[0], columns[1])
-            if here.setdefault(key, self.known.get(key, columns)) == columns:
-                kept.append(columns)
-        return kept
-
     def spoil(self, rows: dict[str, list[Columns]]) -> dict[str, Fault]:
-        """Spoils the check digit of the first concept, or a row of a member, if there is one."""
-        sorts = [sort for sort in rows if SORTS[sort].kind == "M" and rows[sort]]
-        if rows["C"] and (not sorts or self.chance.random() < 0.5):
-            first = list(rows["C"][0])
-            first[0] = first[0][:-1] + str((int(first[0][-1]) + 1) % 10)
-            rows["C"][0] = first
-            return {"C": Fault(2, "24 Id")}
+        """Spoils a row of a concept or of a member, if there is one."""
+        sorts = [sort for sort in rows if SORTS[sort].kind in SPOILED and rows[sort]]
         if not sorts:
             return {}
-        sort = self.chance.choice(sorts)
+        sort = "C" if "C" in sorts and self.chance.random() < 0.5 else self.chance.choice(sorts)
         place = self.chance.randrange(len(rows[sort]))
-        column, text, refusal = self.chance.choice(SPOILED)
+        column, text, refusal = self.chance.choice(SPOILED[SORTS[sort].kind])
         columns = list(rows[sort][place])
         if column is None:
             columns.pop()
@@ -249,18 +237,30 @@ class Releases:
         return self.chance.choice(self.chance.choice(found)) if found else None
 
 
+class Asked(NamedTuple):
+    """A line, what the model says to it, and what the model's state is then."""
+
+    line: str
+    said: Reply
+    state: State
+
+    @property
+    def reply(self) -> bytes:
+        return "".join(line + "\n" for line in self.said).encode()
+
+
 class Soak:
     def __init__(self, program: str, seed: int, folder: str) -> None:
         self.place = Place(Path(program), Path(folder))
         self.chance, self.kind = random.Random(seed), "C"
         self.releases = Releases(self.chance, os.path.join(folder, "releases"))
         # Some begin with a store of layout 3, and some with one of layout 1.
-        self.layout = ("2", "1", "3")[seed % 3]
-        self.model = Model(self.releases.files, keeps_all=self.layout == "3")
-        self.store = os.path.join(folder, "store")
+        self.layout = (2, 1, 3)[seed % 3]
+        self.model = Model(self.releases.files, keeps_all=self.layout == 3)
+        self.store = self.place.path("store")
         self.serving: Optional[Server] = None
         self.took = 0.05
-        self.counts = dict.fromkeys([*COUNTED, *ANSWERED], 0)
+        self.counts = Counter[str]()
 
     def start(self) -> None:
         self.counts["openings"] += 1
@@ -272,29 +272,20 @@ class Soak:
         return self.serving
 
     def component(self, kind: str) -> str:
-        ids = self.model.kinds[kind].ids
-        if not ids or self.chance.random() < 0.05:
-            return self.strange(kind)
-        name = self.chance.choice(ids)
-        return str(name) if kind in rf2.PARTITIONS else str(uuid.UUID(int=name))
-
-    def strange(self, kind: str) -> str:
-        """An identifier that no release has."""
+        """The identifier of a component, now and then one that no release has."""
+        if self.model.rows[kind] and not self.is_so(0.05):
+            return self.chance.choice(self.model.rows[kind]).columns[0]
         if kind not in rf2.PARTITIONS:
             return "00000000-0000-4000-8000-000000000000"
         return str(rf2.sctid(3000, rf2.PARTITIONS[kind]))
 
     def question(self, session: int) -> str:
         """A question, now and then of an import that the session isn't pinned to."""
-        return "%d %s%s" % (session, self.filled("AT {import} ") if self.is_so(0.2) else "",
-                            self.asked())
+        self.kind, at = self.chance.choice(KINDS), "AT {import} " if self.is_so(0.2) else ""
+        return "%d %s" % (session, self.filled(at + self.chance.choice(QUESTIONS)))
 
     def is_so(self, likelihood: float) -> bool:
         return self.chance.random() < likelihood
-
-    def asked(self) -> str:
-        self.kind = self.chance.choice(KINDS)
-        return self.filled(self.chance.choice(QUESTIONS))
 
     def filled(self, form: str) -> str:
         """A form of a question, in which something drawn by chance stands for each name."""
@@ -362,8 +353,7 @@ class Soak:
         if what < 0.92:
             if self.model.state.merge is None:
                 return chance.choice(["0 MERGE", "0 MERGE", "0 MERGE", "0 STEP 9"])
-            left = self.model.state.merge[2]
-            if left == 0:
+            if self.model.state.merge.left == 0:
                 return chance.choice(["0 PUBLISH"] * 6 + ["0 MERGE", "0 ABANDON"])
             steps = ["0 STEP 1", "0 STEP 40", "0 PUBLISH"] + ["0 STEP 100000"] * 4
             return chance.choice(steps)
@@ -379,60 +369,68 @@ class Soak:
             return self.chance.choice(list(self.releases.files))
         return self.releases.make()
 
-    def batch(self) -> tuple[list[str], list[bytes], list[State]]:
-        """Lines, the replies that the model gives, and the model's state after each."""
-        lines: list[str] = []
-        replies: list[bytes] = []
-        states = [self.model.state]
-        for _ in range(self.chance.choice([1, 3, 10, 30])):
-            line = self.line()
-            said = self.model.reply(line)
-            for count, word in ANSWERED.items():
-                self.counts[count] += " %s " % word in line and len(said) > 1
-            lines.append(line)
-            replies.append("".join(part + "\n" for part in said).encode())
-            states.append(self.model.state)
-        return lines, replies, states
+    def asked(self, line: str) -> Asked:
+        """A line with what the model says."""
+        return Asked(line, self.model.reply(line), self.model.state)
 
-    def ask(self, lines: list[str], replies: Sequence[bytes]) -> None:
+    def batch(self) -> list[Asked]:
+        batch = [self.asked(self.line()) for _ in range(self.chance.choice([1, 3, 10, 30]))]
+        for word in ANSWERED:
+            self.counts[word] += sum(" %s " % word in one.line and len(one.said) > 1
+                                     for one in batch)
+        return batch
+
+    def ask(self, batch: Sequence[Asked]) -> None:
         """Sends lines, and compares what is answered."""
         begun = time.monotonic()
-        wanted = b"".join(replies)
-        self.served.send("".join(line + "\n" for line in lines).encode())
-        self.served.read(len(wanted), begun + SECONDS)
-        came, self.served.unread = self.served.unread, b""
-        self.compare(came, replies, lines, all_of_it=True)
+        self.send(batch)
+        came = self.read(sum(len(one.reply) for one in batch), SECONDS)
+        self.compare(came, batch, all_of_it=True)
         self.took = 0.9 * self.took + 0.1 * (time.monotonic() - begun)
 
-    def compare(self, came: bytes, replies: Sequence[bytes], lines: list[str],
-                all_of_it: bool) -> int:
+    def send(self, batch: Sequence[Asked]) -> None:
+        self.served.send("".join(one.line + "\n" for one in batch).encode())
+
+    def read(self, wanted: int, seconds: float, end: bytes = b"\xff") -> bytes:
+        """So many bytes of replies, or those up to an end, as far as they come in time."""
+        self.served.read(wanted, time.monotonic() + seconds, end)
+        came, self.served.unread = self.served.unread, b""
+        return came
+
+    def compare(self, came: bytes, batch: Sequence[Asked], all_of_it: bool) -> int:
         """How many replies came whole."""
         place = 0
-        for number, reply in enumerate(replies):
+        for number, (line, reply) in enumerate((one.line, one.reply) for one in batch):
             part = came[place : place + len(reply)]
             if part != reply[: len(part)] or (all_of_it and len(part) < len(reply)):
-                raise Wrong("%r: %r in place of %r" % (lines[number], part[:300], reply[:300]))
+                raise Wrong("%r: %r in place of %r" % (line, part[:300], reply[:300]))
             if len(part) < len(reply):
                 return number
             place += len(reply)
             self.counts["lines"] += 1
         if place != len(came):
             raise Wrong("more than the replies: %r" % came[place : place + 300])
-        return len(replies)
+        return len(batch)
 
     def count(self, states: Sequence[State]) -> None:
         self.counts["imports"] += states[-1].imports - states[0].imports
         self.counts["publications"] += publications(states)
 
+    def whole_batch(self) -> None:
+        before, batch = self.model.state, self.batch()
+        self.ask(batch)
+        self.count([before, *(one.state for one in batch)])
+        self.counts["trims"] += sum(one.line == "0 TRIM" for one in batch)
+
     def killed_batch(self) -> None:
-        lines, replies, states = self.batch()
-        self.served.send("".join(line + "\n" for line in lines).encode())
-        wanted = len(b"".join(replies)) + 1
-        self.served.read(wanted, time.monotonic() + self.chance.random() * 1.5 * self.took)
+        before, batch = self.model.state, self.batch()
+        self.send(batch)
+        wanted = sum(len(one.reply) for one in batch) + 1
+        came = self.read(wanted, self.chance.random() * 1.5 * self.took)
         self.served.kill()
         self.counts["kills_in_batches"] += 1
-        answered = self.compare(self.served.unread, replies, lines, all_of_it=False)
-        self.start_again(states, answered)
+        answered = self.compare(came + self.served.unread, batch, all_of_it=False)
+        self.start_again([before, *(one.state for one in batch)], answered)
 
     def start_again(self, states: Sequence[State], answered: int) -> None:
         """Finds which of the lines that were sent the store has done, and goes on from there."""
@@ -443,21 +441,20 @@ class Soak:
             self.counts["kills_in_openings"] += 1
         self.start()
         self.served.send(b"0 STATUS\n")
-        self.served.read(sys.maxsize, time.monotonic() + SECONDS, b"\n")
-        came, self.served.unread = self.served.unread.decode(errors="replace"), b""
+        came = self.read(sys.maxsize, SECONDS, b"\n").decode(errors="replace")
         if not came:
             raise Wrong("after a kill: no reply to STATUS, with %d lines answered" % answered)
-        said = [state.reopened().status() + "\n" for state in states]
-        allowed = [number for number in range(answered, len(states)) if came == said[number]]
-        if not allowed:
+        done_by = [number for number, state in enumerate(states) if number >= answered
+                   and came == state.reopened().status() + "\n"]
+        if not done_by:
             raise Wrong("after a kill: %r, with %d lines answered" % (came, answered))
-        done = states[allowed[0]]
-        self.count(states[: allowed[0] + 1])
+        done = states[done_by[0]]
+        self.count(states[: done_by[0] + 1])
         kept = done.imports - states[answered].imports
         self.counts["imports_cut_kept"] += kept
         self.counts["imports_cut_lost"] += states[-1].imports - done.imports
-        self.counts["publications_cut_kept"] += publications(states[answered : allowed[0] + 1])
-        self.counts["publications_cut_lost"] += publications(states[allowed[0] :])
+        self.counts["publications_cut_kept"] += publications(states[answered : done_by[0] + 1])
+        self.counts["publications_cut_lost"] += publications(states[done_by[0] :])
         self.model.go_back(done)
         self.dump()
 
@@ -466,11 +463,8 @@ class Soak:
         self.counts["dumps"] += 1
         imports = self.model.state.imports
         for pin in {imports, self.chance.randint(0, imports)}:
-            self.check("9 PIN %d" % pin)
-            self.check("9 RECEIPT 1")
-            self.check("9 RECEIPT %d" % pin)
-            self.check("9 DATES")
-            self.check("9 DESCENDANTS %d %s" % (rf2.ROOT, LAST_DATE))
+            self.check("9 PIN %d" % pin, "9 RECEIPT 1", "9 RECEIPT %d" % pin, "9 DATES",
+                       "9 DESCENDANTS %d %s" % (rf2.ROOT, LAST_DATE))
             for kind in KINDS:
                 for date in (self.chance.choice(DATES), LAST_DATE):
                     self.pages("9 PAGE %s %s" % (kind, date), 1000)
@@ -483,50 +477,33 @@ class Soak:
             after = said[-2].removeprefix("ROW ").split("\t")[column]
             said = self.check("%s %s %d" % (question, after, limit))
 
-    def check(self, line: str) -> list[str]:
-        said = self.model.reply(line)
-        self.ask([line], ["".join(part + "\n" for part in said).encode()])
-        return said
+    def check(self, *lines: str) -> Reply:
+        """Asks lines, some at a time. The reply to the last one."""
+        asked = [self.asked(line) for line in lines]
+        for start in range(0, len(asked), LINES_AT_ONCE):
+            self.ask(asked[start : start + LINES_AT_ONCE])
+        return asked[-1].said
 
     def everything(self) -> None:
         """Compares every version of every component, what each import brought, the days that it
         left, and what is around some concepts."""
-        for kind in KINDS:
-            self.check_all(["0 HISTORY %s %s" % (kind, name) for name in self.names(kind)])
         imports = self.model.state.imports
-        self.check_all(["0 RECEIPT %d" % number for number in range(1, imports + 1)])
-        self.check_all(["0 AT %d DATES" % number for number in range(imports + 1)])
-        self.check_all(["0 AT %d DIGEST" % number for number in (0, imports // 2, imports)])
-        self.check_all([self.around() for _ in range(ASKED_AROUND)])
+        self.check(*("0 HISTORY %s %s" % (kind, name)
+                     for kind in KINDS for name in self.column(kind, 0)))
+        self.check(*("0 RECEIPT %d" % number for number in range(imports + 1)))
+        self.check(*("0 AT %d DATES" % number for number in range(imports + 1)))
+        self.check(*("0 AT %d DIGEST" % number for number in (0, imports // 2, imports)))
+        self.check(*("0 AT %d %s" % (self.chance.randint(0, imports),
+                                     self.filled(self.chance.choice(AROUND)))
+                     for _ in range(ASKED_AROUND)))
         for refset in self.column("M", REFSET):
             for date in (self.chance.choice(DATES), LAST_DATE):
                 self.pages("0 MEMBERS %s %s" % (refset, date), MEMBERS_AT_ONCE)
                 self.pages("0 VALUES %s %s" % (refset, date), MEMBERS_AT_ONCE, REFERENCED)
 
-    def around(self) -> str:
-        """A question about what is around a concept on any day, as an import left it."""
-        concept, day = self.component("C"), self.chance.choice(DATES + [LAST_DATE])
-        asked = ["%s %s %s" % (word, concept, day) for word in AROUND]
-        asked += ["TIMELINE %s %s" % (kind, concept) for kind in SUBJECTS]
-        asked += ["CALLED %s %s %d" % (concept, day, language) for language in rf2.LANGUAGES]
-        at = self.chance.randint(0, self.model.state.imports)
-        return "0 AT %d %s" % (at, self.chance.choice(asked))
-
     def column(self, kind: str, place: int) -> list[str]:
         """What a column of a kind has, in any version of a component."""
-        of = self.model.kinds[kind].of
-        return sorted({columns[place] for dates in of.values() for _, columns in dates.values()})
-
-    def check_all(self, lines: list[str]) -> None:
-        """Asks lines, fifty at a time."""
-        for start in range(0, len(lines), 50):
-            part = lines[start : start + 50]
-            said = ["".join(p + "\n" for p in self.model.reply(line)).encode() for line in part]
-            self.ask(part, said)
-
-    def names(self, kind: str) -> list[str]:
-        shown = self.model.kinds[kind].of
-        return [next(iter(shown[name].values()))[1][0] for name in self.model.kinds[kind].ids]
+        return sorted({row.columns[place] for row in self.model.rows[kind]})
 
     def run(self, seconds: int) -> None:
         self.make_store()
@@ -541,18 +518,14 @@ class Soak:
             elif what < 0.31 or time.monotonic() > begun + seconds and not self.model.keeps_all:
                 self.copy_in_layout_three()
             else:
-                lines, replies, states = self.batch()
-                self.ask(lines, replies)
-                self.count(states)
-                self.counts["trims"] += lines.count("0 TRIM")
+                self.whole_batch()
         self.check("0 UNPIN")
         self.everything()
         same("the end", (self.served.end(), self.served.unread), (0, b""))
 
     def make_store(self) -> None:
-        words = ["init", "--store", self.store, "--layout", max(self.layout, "2")]
-        same("init", self.place.done(*words), "OK")
-        if self.layout == "1":
+        self.place.make_store(layout=max(self.layout, 2))
+        if self.layout == 1:
             with open(self.store, "r+b") as file:
                 for at in LAYOUTS_AT:
                     file.seek(at - 7)
@@ -562,17 +535,15 @@ class Soak:
     def copy_in_layout_three(self) -> None:
         """Between two servers a copy in layout 3 replaces the store, perhaps after a killed one."""
         same("the end before a copy", (self.served.end(), self.served.unread), (0, b""))
-        made = self.store + ".copy"
-        words = ["copy", "--store", self.store, "--to", made, "--layout", "3"]
-        if self.chance.random() < 0.5:
-            with subprocess.Popen([self.place.program, *words], stdout=subprocess.DEVNULL,
-                                  stderr=subprocess.DEVNULL) as cut:
+        if self.is_so(0.5):
+            to, words = self.place.path("cut"), ["--layout", "3"]
+            with subprocess.Popen([self.place.program, "copy", "--store", self.store, "--to", to,
+                                   *words], stdout=subprocess.DEVNULL) as cut:
                 time.sleep(self.chance.random() * 0.02)
                 cut.kill()
             self.counts["copies_cut"] += 1
-            Path(made).unlink(missing_ok=True)
-        same("a copy", self.place.done(*words), "OK")
-        os.replace(made, self.store)
+            to.unlink(missing_ok=True)
+        os.replace(self.place.copy(self.store, "copy", layout=3), self.store)
         self.counts["copies"] += 1
         self.model.keeps_all = True
         self.start_again([self.model.state], 0)
@@ -580,12 +551,11 @@ class Soak:
     def second_import(self) -> None:
         """A second program on the file is refused, and changes nothing."""
         self.check("0 STATUS")
-        before = Path(self.store).read_bytes()
-        name = self.releases.make()
+        before, name = self.store.read_bytes(), self.releases.make()
         ran = self.place.run("import", "--store", self.store, "--releases", self.releases.folder,
                              name)
         same("a second program", ran[:2], (1, "ERR 2 DiskFault\n"))
-        same("whether it changes the store", Path(self.store).read_bytes() == before, True)
+        same("whether it changes the store", self.store.read_bytes() == before, True)
         self.counts["seconds_refused"] += 1
 
     def figures(self, seconds: int) -> None:
@@ -600,8 +570,8 @@ class Soak:
         """What was to be cut short and never was, or asked and never answered by a row."""
         missed = ["no kill cut any %s short" % name for name in ("imports", "publications")
                   if not self.counts[name + "_cut_kept"] + self.counts[name + "_cut_lost"]]
-        return missed + ["no %s was answered by a row" % ANSWERED[count]
-                         for count in ANSWERED if not self.counts[count]]
+        return missed + ["no %s was answered by a row" % word
+                         for word in ANSWERED if not self.counts[word]]
 
 
 # What stands for a name in a form of a question.

@@ -1,11 +1,12 @@
 """What each line is answered, by the definitions: slow and plain. Part of soak.py and of
 refuse_growths.py. It shares nothing with the program. Standard library alone."""
 
-import bisect
 import hashlib
 import inspect
 import unicodedata
-from typing import Callable, Iterable, Iterator, Mapping, NamedTuple, Optional, Sequence
+from bisect import bisect_left, bisect_right
+from collections.abc import Callable, Iterable, Iterator, Mapping, Sequence
+from typing import NamedTuple, Optional
 
 Columns = list[str]
 Reply = list[str]
@@ -24,11 +25,12 @@ IS_A = "116680003"
 OF_CONCEPTS = ("00", "10")
 OF_COMPONENTS = (*OF_CONCEPTS, "01", "11", "02", "12")
 MOST_SEGMENTS = 250
-LINE_LIMIT = 4096
+LINE_LIMIT, LAST_SESSION = 4096, 1023
 NO_ARGUMENTS, NO_SUCH_IMPORT = ["ERR 43 Arguments"], ["ERR 44 PinRange"]
-# What needs members is refused with below layout 3: these, and questions with the letter M.
-LATER_LAYOUT = ["ERR 14 LaterVersion"]
-OF_MEMBERS = ("members", "values", "called")
+
+
+class Refused(Exception):
+    """A line is refused: its text is the reply."""
 
 
 class Fault(NamedTuple):
@@ -48,44 +50,14 @@ class File(NamedTuple):
     fault: Optional[Fault] = None
 
 
-class Contradicts(Exception):
-    """A line says otherwise than another one of the same id and date: the reply."""
+class Row(NamedTuple):
+    """A row of a store: its component's identifier, its date, the number of its import, and what it
+    says. Rows of a kind are in their order by the first two."""
 
-
-class Versions:
-    """The rows of one kind: of each component its versions, with the numbers of their imports."""
-
-    def __init__(self) -> None:
-        self.of: dict[int, dict[str, tuple[int, Columns]]] = {}
-        self.ids: list[int] = []
-
-    def add(self, name: int, date: str, number: int, columns: Columns) -> None:
-        if name not in self.of:
-            self.of[name] = {}
-            bisect.insort(self.ids, name)
-        self.of[name][date] = (number, columns)
-
-    def at(self, name: int, date: str, pin: int) -> Optional[Columns]:
-        """The latest version up to a date that a pin shows."""
-        shown = [d for d, v in self.of.get(name, {}).items() if d <= date and v[0] <= pin]
-        return self.of[name][max(shown)][1] if shown else None
-
-    def all_of(self, name: int, pin: int) -> list[Columns]:
-        found = sorted(self.of.get(name, {}).items())
-        return [v[1] for _, v in found if v[0] <= pin]
-
-    def dates(self, first: int, last: int) -> list[str]:
-        """The dates of the rows that some imports brought, one for each row."""
-        return [d for dates in self.of.values() for d, v in dates.items() if first <= v[0] <= last]
-
-    def keep_first(self, imports: int) -> None:
-        for name in list(self.of):
-            kept = {d: v for d, v in self.of[name].items() if v[0] <= imports}
-            if kept:
-                self.of[name] = kept
-            else:
-                del self.of[name]
-                self.ids.remove(name)
+    name: int
+    date: str
+    number: int
+    columns: Columns
 
 
 class Merge(NamedTuple):
@@ -115,6 +87,11 @@ class State(NamedTuple):
         left = "-" if self.merge is None else str(self.merge.left)
         return "OK %d %d %d %s" % (*self.counts(), left)
 
+    def merging(self) -> Merge:
+        if self.merge is None:
+            raise Refused("ERR 11 NoMerge")
+        return self.merge
+
 
 def publications(states: Sequence[State]) -> int:
     """How many merges were published from the first of these states to the last one."""
@@ -123,7 +100,9 @@ def publications(states: Sequence[State]) -> int:
 
 
 def name_of(kind: str, text: str) -> int:
-    """An identifier in its order: that of numbers."""
+    """An identifier in its order, that of numbers; less than each where a page begins."""
+    if text == "-":
+        return -1
     return int(text.replace("-", ""), 16) if kind in "AM" else int(text)
 
 
@@ -132,17 +111,13 @@ def is_sctid_of(partitions: Sequence[str], text: str) -> bool:
     return text.isdigit() and text[-3:-1] in partitions
 
 
-def row(columns: Columns) -> str:
-    return "ROW " + "\t".join(columns)
-
-
 def ids_and_end(found: Iterable[int]) -> Reply:
     ids = sorted(found)
     return ["ID %d" % name for name in ids] + ["END %d" % len(ids)]
 
 
 def rows_and_end(found: Sequence[Columns]) -> Reply:
-    return [row(columns) for columns in found] + ["END %d" % len(found)]
+    return ["ROW " + "\t".join(columns) for columns in found] + ["END %d" % len(found)]
 
 
 def reached(first: int, steps: Iterable[tuple[int, int]]) -> set[int]:
@@ -167,288 +142,285 @@ def begins_each(wanted: Iterable[str], words: Sequence[str]) -> bool:
 
 
 class Model:
-    """What each line is answered, by the definitions: slow and plain. A store of layout 3 asks for
-    all files of a release, one of a layout below for the basic ones alone."""
+    """What each line is answered. A store of layout 3 asks for all files of a release, one of a
+    layout below for the basic ones alone. A question is answered by the method `ask_` of its name,
+    another command by `do_`, which takes the words of the line that it names."""
 
     def __init__(self, releases: Mapping[str, Sequence[File]], keeps_all: bool = False) -> None:
         self.releases, self.keeps_all = releases, keeps_all
-        self.kinds = {kind: Versions() for kind in KINDS}
+        self.rows: dict[str, list[Row]] = {kind: [] for kind in KINDS}
         self.state = State()
         self.pins: dict[int, int] = {}
+        # Of the line that is answered: its session, and up to which import it sees rows.
+        self.session = self.pin = 0
 
     def reply(self, line: str) -> Reply:
         if len(line.encode()) > LINE_LIMIT:
             return ["ERR 40 Long"]
         session, _, rest = line.partition(" ")
         command, _, words = rest.partition(" ")
-        if not session.isdigit() or int(session) > 1023:
+        if not session.isdigit() or int(session) > LAST_SESSION:
             return ["ERR 41 Session"]
-        number, name = int(session), command.lower() if command.isupper() else ""
-        if hasattr(self, "ask_" + name):
-            return self.answer(name, self.pins.get(number, self.state.imports), words)
-        do: Optional[Callable[[int, str], Reply]] = getattr(self, "do_" + name, None)
-        return do(number, words) if do else ["ERR 42 Command"]
+        self.session = int(session)
+        self.pin = self.pins.get(self.session, self.state.imports)
+        method = self.method("ask_", command) or self.method("do_", command)
+        return self.answer(method, words) if method else ["ERR 42 Command"]
 
-    def answer(self, name: str, pin: int, words: str) -> Reply:
-        """What a question is answered at a pin: a method takes the words that follow as what it
-        takes behind the pin. Below layout 3 nothing is answered that needs members, unless the
-        arguments are none."""
-        ask: Callable[..., Reply] = getattr(self, "ask_" + name)
-        count = len(inspect.signature(ask).parameters) - 1
-        given = words.split(" ", count - 1) if count else []
-        said = ask(pin, *given)
-        needs = name in OF_MEMBERS or given[name == "added" :][:1] == ["M"]
-        return LATER_LAYOUT if needs and not self.keeps_all and said != NO_ARGUMENTS else said
+    def method(self, sort: str, command: str) -> Optional[Callable[..., Reply]]:
+        found: Optional[Callable[..., Reply]] = getattr(self, sort + command.lower(), None)
+        return found if command.isupper() else None
 
-    def ask_get(self, pin: int, kind: str, name: str, date: str) -> Reply:
-        found = self.kinds[kind].at(name_of(kind, name), date, pin)
-        return rows_and_end([found] if found else [])
+    def answer(self, method: Callable[..., Reply], words: str) -> Reply:
+        """What a method answers, whose last word is all that follows the others."""
+        count = len(inspect.signature(method).parameters)
+        try:
+            return method(*words.split(" ", count - 1)[:count])
+        except Refused as refusal:
+            return [str(refusal)]
 
-    def ask_history(self, pin: int, kind: str, name: str) -> Reply:
-        return rows_and_end(self.kinds[kind].all_of(name_of(kind, name), pin))
+    # ---- The rows that are asked about
 
-    def page(self, pin: int, kind: str, date: str, after: str, limit: str,
+    def seen(self, kind: str, first: int = 0, end: Optional[int] = None) -> Iterator[Row]:
+        """The rows of a kind that the line sees, or a part of them."""
+        if kind == "M" and not self.keeps_all:
+            raise Refused("ERR 14 LaterVersion")
+        return (row for row in self.rows[kind][first:end] if row.number <= self.pin)
+
+    def versions(self, kind: str, name: str) -> list[Row]:
+        """The versions of a component, by their dates."""
+        rows, number = self.rows[kind], name_of(kind, name)
+        first, end = (cut(rows, number, key=lambda row: row.name)
+                      for cut in (bisect_left, bisect_right))
+        return list(self.seen(kind, first, end))
+
+    def shown(self, kind: str, date: str) -> dict[int, Columns]:
+        """The latest version of each component up to a date, by their identifiers."""
+        return {row.name: row.columns for row in self.seen(kind) if row.date <= date}
+
+    def active(self, kind: str, date: str) -> list[Columns]:
+        return [c for c in self.shown(kind, date).values() if c[2] == "1"]
+
+    def members(self, refset: str, date: str) -> list[Columns]:
+        return [c for c in self.active("M", date) if c[REFSET] == refset]
+
+    def links(self, date: str) -> list[tuple[int, int]]:
+        """Each active "is a" at a date: a child and its parent."""
+        return [(int(c[SOURCE]), int(c[DESTINATION])) for c in self.active("R", date)
+                if c[TYPE] == IS_A]
+
+    # ---- Questions
+
+    def ask_get(self, kind: str, name: str, date: str) -> Reply:
+        found = [row.columns for row in self.versions(kind, name) if row.date <= date]
+        return rows_and_end(found[-1:])
+
+    def ask_history(self, kind: str, name: str) -> Reply:
+        return rows_and_end([row.columns for row in self.versions(kind, name)])
+
+    def page(self, kind: str, date: str, after: str, limit: str,
              is_wanted: Callable[[Columns], bool]) -> Reply:
         """The first so many rows that are wanted, of components after an identifier."""
-        table, found = self.kinds[kind], list[Columns]()
-        start = 0 if after == "-" else bisect.bisect_right(table.ids, name_of(kind, after))
-        for name in table.ids[start:]:
-            if len(found) == int(limit):
-                break
-            shown = table.at(name, date, pin)
-            if shown and is_wanted(shown):
-                found.append(shown)
-        return rows_and_end(found)
+        least = name_of(kind, after)
+        found = [c for name, c in self.shown(kind, date).items() if name > least and is_wanted(c)]
+        return rows_and_end(found[: int(limit)])
 
-    def ask_page(self, pin: int, kind: str, date: str, after: str, limit: str) -> Reply:
-        return self.page(pin, kind, date, after, limit, lambda columns: True)
+    def ask_page(self, kind: str, date: str, after: str, limit: str) -> Reply:
+        return self.page(kind, date, after, limit, lambda columns: True)
 
-    def ask_delta(self, pin: int, kind: str, begin: str, date: str, after: str,
-                  limit: str) -> Reply:
-        return self.page(pin, kind, date, after, limit, lambda columns: columns[1] > begin)
+    def ask_delta(self, kind: str, begin: str, date: str, after: str, limit: str) -> Reply:
+        return self.page(kind, date, after, limit, lambda columns: columns[1] > begin)
 
-    def ask_members(self, pin: int, refset: str, date: str, after: str, limit: str) -> Reply:
+    def ask_members(self, refset: str, date: str, after: str, limit: str) -> Reply:
         if not is_sctid_of(OF_CONCEPTS, refset) or is_sctid_of(OF_COMPONENTS, after):
             return NO_ARGUMENTS
-        return self.page(pin, "M", date, after, limit, lambda columns: columns[REFSET] == refset)
+        return self.page("M", date, after, limit, lambda columns: columns[REFSET] == refset)
 
-    def active(self, pin: int, kind: str, date: str) -> Iterator[Columns]:
-        """The active rows of a kind at a date, ascending."""
-        table = self.kinds[kind]
-        shown = (table.at(name, date, pin) for name in table.ids)
-        return (columns for columns in shown if columns and columns[2] == "1")
-
-    def active_members(self, pin: int, refset: str, date: str) -> list[Columns]:
-        return [c for c in self.active(pin, "M", date) if c[REFSET] == refset]
-
-    def ask_values(self, pin: int, refset: str, date: str, after: str, limit: str) -> Reply:
+    def ask_values(self, refset: str, date: str, after: str, limit: str) -> Reply:
         if not is_sctid_of(OF_CONCEPTS, refset):
             return NO_ARGUMENTS
         if after != "-" and not is_sctid_of(OF_COMPONENTS, after):
             return NO_ARGUMENTS
-        least = 0 if after == "-" else int(after)
-        members = self.active_members(pin, refset, date)
-        found = [c for c in members if int(c[REFERENCED]) > least]
-        found.sort(key=lambda c: (int(c[REFERENCED]), name_of("M", c[0])))
+        members = self.members(refset, date)
+        found = sorted((int(c[REFERENCED]), name_of("M", c[0]), c) for c in members
+                       if int(c[REFERENCED]) > name_of("C", after))
         # A row is answered if fewer than the limit refer to a component before its own.
-        components = [int(c[REFERENCED]) for c in found]
-        return rows_and_end([c for c, component in zip(found, components)
-                             if bisect.bisect_left(components, component) < int(limit)])
+        components = [component for component, _, _ in found]
+        return rows_and_end([c for component, _, c in found
+                             if bisect_left(components, component) < int(limit)])
 
-    def ask_called(self, pin: int, concept: str, date: str, refset: str) -> Reply:
+    def ask_called(self, concept: str, date: str, refset: str) -> Reply:
         if not all(is_sctid_of(OF_CONCEPTS, text) for text in (concept, refset)):
             return NO_ARGUMENTS
-        found, members = [], self.active_members(pin, refset, date)
-        for description in self.active(pin, "D", date):
+        found, members = [], self.members(refset, date)
+        for description in self.active("D", date):
             if description[CONCEPT] == concept:
                 its = [c for c in members if c[REFERENCED] == description[0]]
                 found += [description, *its] if its else []
         return rows_and_end(found)
 
-    def ask_terms(self, pin: int, date: str, limit: str, prefix: str) -> Reply:
-        return self.ask_search(pin, date, "-", limit, prefix)
+    def ask_terms(self, date: str, limit: str, prefix: str) -> Reply:
+        return self.ask_search(date, "-", limit, prefix)
 
-    def ask_search(self, pin: int, date: str, after: str, limit: str, prefix: str) -> Reply:
+    def ask_search(self, date: str, after: str, limit: str, prefix: str) -> Reply:
         folded = prefix.casefold()
-        found = [c for c in self.active(pin, "D", date) if c[TERM].casefold().startswith(folded)]
-        if after != "-":
-            found = [c for c in found if int(c[0]) > int(after)]
+        found = [c for c in self.active("D", date)
+                 if int(c[0]) > name_of("D", after) and c[TERM].casefold().startswith(folded)]
         return rows_and_end(found[: int(limit)])
 
-    def ask_words(self, pin: int, date: str, kind_of_term: str, offset: str, limit: str,
-                  text: str) -> Reply:
+    def ask_words(self, date: str, kind_of_term: str, offset: str, limit: str, text: str) -> Reply:
         wanted = words_of(text)
         if not wanted:
             return NO_ARGUMENTS
-        found = [c for c in self.active(pin, "D", date) if kind_of_term in ("-", c[KIND_OF_TERM])
+        found = [c for c in self.active("D", date) if kind_of_term in ("-", c[KIND_OF_TERM])
                  and begins_each(wanted, words_of(c[TERM]))]
         found.sort(key=lambda c: (len(c[TERM]), int(c[0])))
         return rows_and_end(found[int(offset) :][: int(limit)])
 
-    def ask_about(self, pin: int, kind: str, name: str, date: str) -> Reply:
+    def ask_about(self, kind: str, name: str, date: str) -> Reply:
         if kind not in SUBJECTS:
             return NO_ARGUMENTS
-        place = SUBJECTS[kind]
-        return rows_and_end([c for c in self.active(pin, kind, date) if c[place] == name])
+        return rows_and_end([c for c in self.active(kind, date) if c[SUBJECTS[kind]] == name])
 
-    def ask_timeline(self, pin: int, kind: str, name: str) -> Reply:
+    def ask_timeline(self, kind: str, name: str) -> Reply:
         if kind not in SUBJECTS:
             return NO_ARGUMENTS
-        place, found = SUBJECTS[kind], []
-        for component in self.kinds[kind].ids:
-            versions = self.kinds[kind].all_of(component, pin)
-            if any(c[2] == "1" and c[place] == name for c in versions):
-                found += versions
-        return rows_and_end(found)
+        place, rows = SUBJECTS[kind], list(self.seen(kind))
+        its = {row.name for row in rows if row.columns[2] == "1" and row.columns[place] == name}
+        return rows_and_end([row.columns for row in rows if row.name in its])
 
-    def ask_dates(self, pin: int) -> Reply:
-        found = {date for kind in KINDS for date in self.kinds[kind].dates(1, pin)}
+    def ask_dates(self) -> Reply:
+        found = {row.date for rows in self.rows.values() for row in rows if row.number <= self.pin}
         return ["DATE " + date for date in sorted(found)] + ["END %d" % len(found)]
 
-    def ask_digest(self, pin: int) -> Reply:
+    def ask_digest(self) -> Reply:
         digest = hashlib.sha256()
-        for kind in KINDS:
-            for name in self.kinds[kind].ids:
-                for columns in self.kinds[kind].all_of(name, pin):
-                    digest.update(("%s %s\n" % (kind, "\t".join(columns))).encode())
+        for kind, rows in self.rows.items():
+            for row in rows:
+                if row.number <= self.pin:
+                    digest.update(("%s %s\n" % (kind, "\t".join(row.columns))).encode())
         return ["OK " + digest.hexdigest()]
 
-    def rows_after(self, kind: str, name: str, date: str, limit: str,
-                   is_wanted: Callable[[int], bool]) -> Reply:
-        """The first rows of a kind after a key, of those imports whose numbers are wanted."""
+    def after(self, kind: str, name: str, date: str) -> list[Row]:
+        """The rows of a kind after a key."""
         if (name == "-") != (date == "-"):
-            return NO_ARGUMENTS
-        after = (-1, "") if name == "-" else (name_of(kind, name), date)
-        table = self.kinds[kind].of
-        keys = sorted((own, day) for own in table for day in table[own] if (own, day) > after)
-        found = [table[own][day] for own, day in keys]
-        return rows_and_end([c for number, c in found if is_wanted(number)][: int(limit)])
+            raise Refused(*NO_ARGUMENTS)
+        return [row for row in self.seen(kind) if row[:2] > (name_of(kind, name), date)]
 
-    def ask_rows(self, pin: int, kind: str, name: str, date: str, limit: str) -> Reply:
-        return self.rows_after(kind, name, date, limit, lambda number: number <= pin)
+    def ask_rows(self, kind: str, name: str, date: str, limit: str) -> Reply:
+        return rows_and_end([row.columns for row in self.after(kind, name, date)][: int(limit)])
 
-    def ask_added(self, pin: int, number: str, kind: str, name: str, date: str,
-                  limit: str) -> Reply:
-        said = self.rows_after(kind, name, date, limit, lambda other: other == int(number))
-        is_seen = 1 <= int(number) <= pin
-        return said if is_seen or said == NO_ARGUMENTS else NO_SUCH_IMPORT
+    def ask_added(self, number: str, kind: str, name: str, date: str, limit: str) -> Reply:
+        its = [row.columns for row in self.after(kind, name, date) if row.number == int(number)]
+        if not 1 <= int(number) <= self.pin:
+            return NO_SUCH_IMPORT
+        return rows_and_end(its[: int(limit)])
 
-    def ask_receipt(self, pin: int, words: str) -> Reply:
+    def ask_receipt(self, words: str) -> Reply:
         number = int(words)
         if number == 0:
             return NO_ARGUMENTS
-        if number > pin:
+        if number > self.pin:
             return NO_SUCH_IMPORT
-        dates = [date for kind in KINDS for date in self.kinds[kind].dates(number, number)]
+        dates = [row.date for rows in self.rows.values() for row in rows if row.number == number]
         return ["OK %d %d %s" % (number, len(dates), max(dates, default="-"))]
 
-    def links(self, pin: int, date: str) -> list[tuple[int, int]]:
-        """Each active "is a" at a date: a child and its parent."""
-        found = self.active(pin, "R", date)
-        return [(int(c[SOURCE]), int(c[DESTINATION])) for c in found if c[TYPE] == IS_A]
+    def ask_children(self, concept: str, date: str) -> Reply:
+        return ids_and_end({child for child, parent in self.links(date) if parent == int(concept)})
 
-    def ask_children(self, pin: int, concept: str, date: str) -> Reply:
-        links = self.links(pin, date)
-        return ids_and_end({child for child, parent in links if parent == int(concept)})
-
-    def ask_sources(self, pin: int, type_id: str, destination: str, date: str, after: str,
+    def ask_sources(self, type_id: str, destination: str, date: str, after: str,
                     limit: str) -> Reply:
-        found = {int(c[SOURCE]) for c in self.active(pin, "R", date)
+        found = {int(c[SOURCE]) for c in self.active("R", date)
                  if c[DESTINATION] == destination and type_id in ("-", c[TYPE])}
-        least = 0 if after == "-" else int(after)
+        least = name_of("C", after)
         return ids_and_end(sorted(name for name in found if name > least)[: int(limit)])
 
-    def ask_ancestors(self, pin: int, concept: str, date: str) -> Reply:
-        return ids_and_end(reached(int(concept), self.links(pin, date)))
+    def ask_ancestors(self, concept: str, date: str) -> Reply:
+        return ids_and_end(reached(int(concept), self.links(date)))
 
-    def ask_descendants(self, pin: int, concept: str, date: str) -> Reply:
-        links = [(parent, child) for child, parent in self.links(pin, date)]
+    def ask_descendants(self, concept: str, date: str) -> Reply:
+        links = [(parent, child) for child, parent in self.links(date)]
         return ids_and_end(reached(int(concept), links))
 
-    def associations(self, pin: int, date: str, place: int, name: str, other: int) -> Reply:
+    def associations(self, date: str, place: int, name: str, other: int) -> Reply:
         """The active ones with a component in one column, by refset, the other column, member."""
-        found = [c for c in self.active(pin, "A", date) if c[place] == name]
+        found = [c for c in self.active("A", date) if c[place] == name]
         found.sort(key=lambda c: (int(c[REFSET]), int(c[other]), name_of("A", c[0])))
         return rows_and_end(found)
 
-    def ask_replaced(self, pin: int, name: str, date: str) -> Reply:
-        return self.associations(pin, date, REFERENCED, name, TARGET)
+    def ask_replaced(self, name: str, date: str) -> Reply:
+        return self.associations(date, REFERENCED, name, TARGET)
 
-    def ask_replaces(self, pin: int, name: str, date: str) -> Reply:
-        return self.associations(pin, date, TARGET, name, REFERENCED)
+    def ask_replaces(self, name: str, date: str) -> Reply:
+        return self.associations(date, TARGET, name, REFERENCED)
 
-    def do_at(self, _session: int, words: str) -> Reply:
+    # ---- Other commands
+
+    def do_at(self, words: str) -> Reply:
         """What a session is answered that is pinned so."""
         number, _, question = words.partition(" ")
         command, _, rest = question.partition(" ")
-        if not command.isupper() or not hasattr(self, "ask_" + command.lower()):
-            return NO_ARGUMENTS
-        said = self.answer(command.lower(), int(number), rest)
+        self.pin, ask = int(number), self.method("ask_", command)
+        said = self.answer(ask, rest) if ask else NO_ARGUMENTS
         # A question that is none is refused before its number is looked at.
-        return NO_SUCH_IMPORT if int(number) > self.state.imports and said != NO_ARGUMENTS else said
+        return NO_SUCH_IMPORT if self.pin > self.state.imports and said != NO_ARGUMENTS else said
 
-    def do_pin(self, session: int, words: str) -> Reply:
+    def do_pin(self, words: str) -> Reply:
         number = self.state.imports if words == "" else int(words)
         if number > self.state.imports:
             return NO_SUCH_IMPORT
-        self.pins[session] = number
+        self.pins[self.session] = number
         return ["OK %d" % number]
 
-    def do_unpin(self, session: int, _words: str) -> Reply:
-        self.pins.pop(session, None)
+    def do_unpin(self) -> Reply:
+        self.pins.pop(self.session, None)
         return ["OK"]
 
-    def do_status(self, _session: int, _words: str) -> Reply:
+    def do_status(self) -> Reply:
         return [self.state.status()]
 
     def new_rows(self, files: Sequence[File]) -> dict[tuple[str, int, str], Columns]:
         """The rows that aren't known. A line that says otherwise than a known one, or than one
-        before it, is a `Contradicts`."""
+        before it, is refused."""
         new: dict[tuple[str, int, str], Columns] = {}
+        known = {(kind, row.name, row.date): row.columns for kind in {file.kind for file in files}
+                 for row in self.rows[kind]}
         for number, file in enumerate(files, 1):
             for line, columns in enumerate(file.rows, 2):
                 key = (file.kind, name_of(file.kind, columns[0]), columns[1])
-                known = self.kinds[file.kind].of.get(key[1], {}).get(columns[1])
-                if known is None or known[0] > self.state.imports:
-                    said = new.setdefault(key, columns)
-                else:
-                    said = known[1]
+                said = known[key] if key in known else new.setdefault(key, columns)
                 if said != columns:
-                    raise Contradicts("ERR 32 Contradiction %d %d" % (number, line))
+                    raise Refused("ERR 32 Contradiction %d %d" % (number, line))
         return new
 
     def judged(self, name: str) -> tuple[Reply, dict[tuple[str, int, str], Columns]]:
         """What the import of a release is answered, and its new rows."""
         if name not in self.releases:
-            return ["ERR 45 NoFolder"], {}
+            raise Refused("ERR 45 NoFolder")
         files = [file for file in self.releases[name] if file.is_basic or self.keeps_all]
         for place, file in enumerate(files, 1):
             if file.fault:
-                return ["ERR %s %d %d" % (file.fault.name, place, file.fault.line)], {}
-        try:
-            new = self.new_rows(files)
-        except Contradicts as reply:
-            return [str(reply)], {}
+                raise Refused("ERR %s %d %d" % (file.fault.name, place, file.fault.line))
+        new = self.new_rows(files)
         if new and len(self.state.segments) == MOST_SEGMENTS:
-            return ["ERR 6 TooManySegments"], {}
+            raise Refused("ERR 6 TooManySegments")
         lines = sum(len(file.rows) for file in files)
         return ["OK %d %d %d" % (self.state.imports + 1, len(new), lines - len(new))], new
 
-    def do_check(self, _session: int, name: str) -> Reply:
+    def do_check(self, name: str) -> Reply:
         return self.judged(name)[0]
 
-    def do_import(self, _session: int, name: str) -> Reply:
+    def do_import(self, name: str) -> Reply:
         said, new = self.judged(name)
-        if said[0].startswith("ERR "):
-            return said
         old, number = self.state, self.state.imports + 1
         for (kind, ident, date), columns in new.items():
-            self.kinds[kind].add(ident, date, number, columns)
+            self.rows[kind].append(Row(ident, date, number, columns))
+        for rows in self.rows.values():
+            rows.sort()
         segments = old.segments + ((len(new),) if new else ())
         self.state = State(number, old.rows + len(new), segments, old.merge)
         return said
 
-    def do_merge(self, _session: int, _words: str) -> Reply:
+    def do_merge(self) -> Reply:
         old = self.state
         if old.merge is not None:
             return ["ERR 10 MergeBusy"]
@@ -460,40 +432,33 @@ class Model:
         self.state = old._replace(merge=Merge(i, j, left, left))
         return ["OK %d" % left]
 
-    def do_step(self, _session: int, words: str) -> Reply:
-        old = self.state
+    def do_step(self, words: str) -> Reply:
         if int(words) == 0:
             return NO_ARGUMENTS
-        if old.merge is None:
-            return ["ERR 11 NoMerge"]
-        left = old.merge.left - min(old.merge.left, int(words))
-        self.state = old._replace(merge=old.merge._replace(left=left))
+        merge = self.state.merging()
+        left = max(merge.left - int(words), 0)
+        self.state = self.state._replace(merge=merge._replace(left=left))
         return ["OK %d" % left]
 
-    def do_publish(self, _session: int, _words: str) -> Reply:
-        old = self.state
-        if old.merge is None:
-            return ["ERR 11 NoMerge"]
-        if old.merge.left:
+    def do_publish(self) -> Reply:
+        merge, segments = self.state.merging(), list(self.state.segments)
+        if merge.left:
             return ["ERR 12 MergeUnfinished"]
-        segments = list(old.segments)
-        segments[old.merge.first] = old.merge.both
-        del segments[old.merge.second]
-        self.state = old._replace(segments=tuple(segments), merge=None)
+        segments[merge.first] = merge.both
+        del segments[merge.second]
+        self.state = self.state._replace(segments=tuple(segments), merge=None)
         return ["OK"]
 
-    def do_abandon(self, _session: int, _words: str) -> Reply:
-        if self.state.merge is None:
-            return ["ERR 11 NoMerge"]
+    def do_abandon(self) -> Reply:
+        self.state.merging()
         self.state = self.state.reopened()
         return ["OK"]
 
-    def do_trim(self, _session: int, _words: str) -> Reply:
+    def do_trim(self) -> Reply:
         return ["OK"]
 
     def go_back(self, state: State) -> None:
         """As it was at a state, and opened again: no merge, no pins."""
-        self.state = state.reopened()
-        self.pins = {}
-        for table in self.kinds.values():
-            table.keep_first(state.imports)
+        self.state, self.pins = state.reopened(), {}
+        for kind, rows in self.rows.items():
+            self.rows[kind] = [row for row in rows if row.number <= state.imports]

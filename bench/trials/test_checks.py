@@ -3,11 +3,12 @@ the hub: what is told beside the reply, and that no other line waits for it."""
 
 import re
 import time
-from collections.abc import Iterable, Sequence
+from collections.abc import Iterable, Iterator, Sequence
+from contextlib import contextmanager
 from pathlib import Path
 
 import pytest
-from harness import DAY, Client, Hub, Place, concept, concept_id, flip, until, write_release
+from harness import DAY, Client, Hub, Place, concept, concept_id, flip, write_release
 import make_release as rf2
 
 # Stands before the program: what its checks tell, are answered and end with instead.
@@ -68,6 +69,26 @@ def checked(store: Path) -> Path:
     return store.with_name(store.name + ".checked")
 
 
+@contextmanager
+def hub_on(place: Place, store: Path, *words: str) -> Iterator[Hub]:
+    """A hub on that store and beside its releases, whose owner asks for notes."""
+    with Hub(place, store, *words, releases=store.with_name("releases"), asks=True) as hub:
+        assert hub.owner.ask("NOTES") == ["OK"]
+        yield hub
+
+
+@pytest.fixture
+def hub(place: Place, store: Path) -> Iterator[Hub]:
+    with hub_on(place, store) as hub:
+        yield hub
+
+
+@pytest.fixture
+def waiting(place: Place) -> Place:
+    """A program whose checks and comparisons wait."""
+    return place.waiting(*CHECKS)
+
+
 def notes_of(client: Client, line: str) -> tuple[list[str], str]:
     """What is told beside the reply to a line, and the reply."""
     *notes, reply = client.ask(line)
@@ -75,38 +96,37 @@ def notes_of(client: Client, line: str) -> tuple[list[str], str]:
     return [note.removeprefix("NOTE ") for note in notes], reply
 
 
-def test_all_contradictions_are_told(place: Place, store: Path, checked: Path) -> None:
-    """Each with its file, its line and the import that has the other row, to who asks for notes."""
-    with Hub(place, store, releases=place.releases) as hub:
-        client, other = hub.client(), hub.client()
-        assert client.ask("NOTES") == ["OK"]
-        notes, reply = notes_of(client, "CHECK wrong")
-        assert reply == "ERR 32 Contradiction 1 4"
-        told = [re.fullmatch(r"sctd: (\S+), line ([0-9]+): .* import 1 brought ([0-9]+)\\t.*", note)
-                for note in notes]
-        assert [found and (found[1].startswith(FILE), *found.groups()[1:]) for found in told] == [
-            (True, str(number + 1), str(concept_id(number))) for number in CHANGED]
-        assert other.ask("CHECK wrong") == [reply]
-        assert notes_of(client, "CHECK next") == ([], "OK 2 1 0")
-        assert client.ask("STATUS") == ["OK 1 10 1 -"]
-        assert hub.logged(is_alone=False) == [
-            f"CHECK {line}" for line in (f"wrong: {reply}", f"wrong: {reply}", "next: OK 2 1 0")]
+def test_contradictions_of_checks_and_imports(hub: Hub, checked: Path) -> None:
+    """Each is told once, with its file, its line and the import that has the other row, to who asks
+    for notes; and before an import as by a check."""
+    notes, reply = notes_of(hub.owner, "CHECK wrong")
+    assert reply == "ERR 32 Contradiction 1 4"
+    told = [re.fullmatch(r"sctd: (\S+), line ([0-9]+): .* import 1 brought ([0-9]+)\\t.*", note)
+            for note in notes]
+    assert [found and (found[1].startswith(FILE), *found.groups()[1:]) for found in told] == [
+        (True, str(number + 1), str(concept_id(number))) for number in CHANGED]
+    assert notes_of(hub.owner, "CHECK next") == ([], "OK 2 1 0")
+    assert notes_of(hub.owner, "IMPORT wrong") == (notes, reply)
+    for word in ("CHECK", "IMPORT"):
+        assert hub.client().ask(f"{word} wrong") == [reply]
+    assert hub.owner.ask("STATUS") == ["OK 1 10 1 -"]
+    assert [hub.told().count(note) for note in (*notes, "sctd: ")] == [4, 4, 4 * len(notes)]
+    assert hub.logged(is_alone=False) == [
+        f"CHECK wrong: {reply}", "CHECK next: OK 2 1 0",
+        *(f"{word} wrong: {reply}" for word in ("IMPORT", "CHECK", "IMPORT"))]
     assert not checked.exists()
 
 
-def test_what_an_import_is_told(place: Place, store: Path) -> None:
+def test_what_an_import_is_told(place: Place, hub: Hub) -> None:
     """The warnings and faults of a release stand before the reply, and in the log as before."""
     folder = write_release(place.releases / "short", {"C": [concept(30)]})
     file, = folder.rglob(FILE + "*")
     file.write_text(file.read_text("utf-8") + "30\t20\n", "utf-8")
-    with Hub(place, store, releases=place.releases) as hub:
-        client, other = hub.client(), hub.client()
-        client.ask("NOTES")
-        notes, reply = notes_of(client, "IMPORT short")
-        assert reply.startswith("ERR 23 ") and any(file.name in note for note in notes)
-        assert other.ask("IMPORT short") == [reply]
-        assert notes_of(client, "IMPORT next")[1] == "OK 2 1 0"
-        assert hub.told().count(notes[-1]) == 2
+    notes, reply = notes_of(hub.owner, "IMPORT short")
+    assert reply.startswith("ERR 23 ") and any(file.name in note for note in notes)
+    assert hub.client().ask("IMPORT short") == [reply]
+    assert notes_of(hub.owner, "IMPORT next")[1] == "OK 2 1 0"
+    assert hub.told().count(notes[-1]) == 2
 
 
 @pytest.mark.parametrize("name, numbers, changed, counts, told", (
@@ -117,48 +137,42 @@ def test_what_an_import_is_told(place: Place, store: Path) -> None:
     ("all", (*NUMBERS[1:], 11), CHANGED, "1 1 2", {
         1: "the Snapshot has none", 3: "the store shows", 7: "the store shows",
         11: "the store shows none"})))
-def test_differences_are_told(place: Place, store: Path, name: str, numbers: Sequence[int],
+def test_differences_are_told(place: Place, hub: Hub, name: str, numbers: Sequence[int],
                               changed: Sequence[int], counts: str, told: dict[int, str]) -> None:
     """Each component that a store lacks, has more or has otherwise, to who asks for notes."""
     write_snapshot(place, name, numbers, changed)
-    with Hub(place, store, releases=place.releases) as hub:
-        client, other = hub.client(), hub.client()
-        client.ask("NOTES")
-        notes, reply = notes_of(client, f"VERIFY {name}")
-        assert reply == f"ERR 46 Differs {counts}"
-        found = {number: [note for note in notes if str(concept_id(number)) in note]
-                 for number in range(1, 13)}
-        assert {number for number, of_it in found.items() if of_it} == set(told)
-        assert all(len(of_it) == 1 and what in of_it[0] for number, what in told.items()
-                   for of_it in [found[number]])
-        assert other.ask(f"VERIFY {name}") == [reply]
-        assert hub.logged(is_alone=False) == [f"VERIFY {name}: {reply}"] * 2
+    notes, reply = notes_of(hub.owner, f"VERIFY {name}")
+    assert reply == f"ERR 46 Differs {counts}"
+    for number in range(1, 13):
+        of_it = [note for note in notes if str(concept_id(number)) in note]
+        assert len(of_it) == (number in told)
+        assert all(told[number] in note for note in of_it)
+    assert hub.client().ask(f"VERIFY {name}") == [reply]
+    assert hub.logged(is_alone=False) == [f"VERIFY {name}: {reply}"] * 2
 
 
-def test_so_many_differences(place: Place, store: Path) -> None:
+def test_so_many_differences(place: Place, hub: Hub) -> None:
     """As many of each sort as the line says, and how many more there are."""
     write_snapshot(place, "other", NUMBERS, CHANGED)
-    with Hub(place, store, releases=place.releases) as hub:
-        hub.owner.ask("NOTES")
-        for limit, count in (("", 2), (" 0", 1), (" 1", 2), (" 2", 2), (" 999999", 2)):
-            notes, reply = notes_of(hub.owner, f"VERIFY other{limit}")
-            assert (len(notes), reply) == (count, "ERR 46 Differs 0 0 2"), limit
-            assert notes[-1].startswith("sctd: and ") == (limit in (" 0", " 1")), limit
-        for line in ("VERIFY other 1000000", "VERIFY other -1", "VERIFY other 1 1", "VERIFY other ",
-                     "VERIFY  1", "CHECK next 1", "IMPORT next 1"):
-            assert notes_of(hub.owner, line) == ([], "ERR 43 Arguments"), line
+    for limit, count in (("", 2), (" 0", 1), (" 1", 2), (" 2", 2), (" 999999", 2)):
+        notes, reply = notes_of(hub.owner, f"VERIFY other{limit}")
+        assert (len(notes), reply) == (count, "ERR 46 Differs 0 0 2"), limit
+        assert notes[-1].startswith("sctd: and ") == (limit in (" 0", " 1")), limit
+    for line in ("VERIFY other 1000000", "VERIFY other -1", "VERIFY other 1 1", "VERIFY other ",
+                 "VERIFY  1", "CHECK next 1", "IMPORT next 1"):
+        assert notes_of(hub.owner, line) == ([], "ERR 43 Arguments"), line
 
 
 def test_hubs_that_only_read(place: Place, store: Path) -> None:
     """They compare the store, each on a copy of its own at the same time, and change nothing."""
     before = store.read_bytes()
-    waiting = [place.below(name).waiting(*CHECKS) for name in ("one", "other")]
-    with (Hub(waiting[0], store, "--read-only", releases=place.releases) as one,
-          Hub(waiting[1], store, "--read-only", releases=place.releases) as other):
-        for hub, its in zip((one, other), waiting):
+    one, other = (place.below(name).waiting(*CHECKS) for name in ("one", "other"))
+    with (hub_on(one, store, "--read-only") as first,
+          hub_on(other, store, "--read-only") as second):
+        for hub, its in ((first, one), (second, other)):
             hub.owner.send(f"VERIFY {SNAPSHOT}\n".encode())
             its.until_begun()
-        for hub, its in zip((one, other), waiting):
+        for hub, its in ((first, one), (second, other)):
             its.go_on()
             assert hub.owner.read() == [WHOLE]
             assert hub.owner.ask("CHECK next") == ["OK 2 1 0"]
@@ -169,80 +183,41 @@ def test_hubs_that_only_read(place: Place, store: Path) -> None:
     assert not list(store.parent.glob(store.name + ".checked*"))
 
 
-def test_a_whole_store(place: Place, store: Path, checked: Path) -> None:
-    """It is compared as it is now, by a copy that doesn't stay, and isn't changed."""
+def test_a_whole_store(store: Path, hub: Hub, checked: Path) -> None:
+    """It is compared as it is now, by a copy that doesn't stay, and isn't changed; but not for who
+    may ask questions alone."""
     before = store.read_bytes()
-    with Hub(place, store, releases=place.releases) as hub:
-        client = hub.client()
-        client.ask("NOTES")
-        assert notes_of(client, f"VERIFY {SNAPSHOT}") == ([], WHOLE)
-        assert client.ask(f"VERIFY {SNAPSHOT}\r") == [WHOLE]
-        assert store.read_bytes() == before and not checked.exists()
-        assert client.ask("IMPORT next") == ["OK 2 1 0"]
-        assert notes_of(client, f"VERIFY {SNAPSHOT}")[1] == "ERR 46 Differs 0 1 0"
-        metrics = " ".join(client.ask("METRICS"))
-        for result, count in (("OK", 2), ("ERR 46 Differs", 1)):
-            assert f'sctd_changes_total{{command="VERIFY",result="{result}"}} {count}' in metrics
-        assert 'sctd_line_seconds_count{line="VERIFY"} 3' in metrics
-
-
-def test_who_may_compare(place: Place, store: Path) -> None:
-    """Not who may ask questions alone."""
-    with Hub(place, store, releases=place.releases, asks=True) as hub:
-        assert hub.asker().ask(f"VERIFY {SNAPSHOT}") == ["ERR hub NotAQuestion"]
+    for end in ("", "\r"):
+        assert notes_of(hub.owner, f"VERIFY {SNAPSHOT}{end}") == ([], WHOLE)
+    assert store.read_bytes() == before and not checked.exists()
+    assert hub.owner.ask("IMPORT next") == ["OK 2 1 0"]
+    assert notes_of(hub.owner, f"VERIFY {SNAPSHOT}")[1] == "ERR 46 Differs 0 1 0"
+    metrics = " ".join(hub.owner.ask("METRICS"))
+    for result, count in (("OK", 2), ("ERR 46 Differs", 1)):
+        assert f'sctd_changes_total{{command="VERIFY",result="{result}"}} {count}' in metrics
+    assert 'sctd_line_seconds_count{line="VERIFY"} 3' in metrics
+    assert hub.guest.ask(f"VERIFY {SNAPSHOT}") == ["ERR hub NotAQuestion"]
 
 
 @pytest.mark.parametrize("line, wanted", SOUND)
-def test_nobody_waits(place: Place, store: Path, checked: Path, line: str, wanted: str) -> None:
+def test_nobody_waits(waiting: Place, store: Path, checked: Path, line: str, wanted: str) -> None:
     """While a release is checked, others ask, import and check no other one."""
-    waiting = place.waiting(*CHECKS)
-    with Hub(waiting, store, "--import-unchecked", releases=place.releases) as hub:
-        owner, other, third = (hub.client() for _ in range(3))
-        owner.send(f"{line}\nSTATUS\n".encode())
+    with hub_on(waiting, store, "--import-unchecked") as hub:
+        other, third = hub.client(), hub.client()
+        hub.owner.send(f"{line}\nSTATUS\n".encode())
         waiting.until_begun()
         assert other.ask(f"GET C {concept_id(1)} 20250131")[-1] == "END 1"
         third.send(b"CHECK wrong\n")
         assert other.ask("IMPORT next") == ["OK 2 1 0"]
-        assert not owner.has_reply() and not third.has_reply()
+        assert not hub.owner.has_reply() and not third.has_reply()
         waiting.go_on()
         # It was checked as the store was then.
-        assert (owner.read(), owner.read()) == ([wanted], ["OK 2 11 2 -"])
+        assert (hub.owner.read(), hub.owner.read()) == ([wanted], ["OK 2 11 2 -"])
         assert third.read() == ["ERR 32 Contradiction 1 4"]
     assert not checked.exists()
 
 
-@pytest.mark.parametrize("line", [line for line, _ in SOUND])
-def test_a_check_of_a_hub_that_ends(place: Place, store: Path, checked: Path, line: str) -> None:
-    """It leaves neither the copy nor the process that checks."""
-    waiting = place.waiting(*CHECKS)
-    with Hub(waiting, store, releases=place.releases) as hub:
-        owner = hub.client()
-        owner.send(line.encode() + b"\n")
-        waiting.until_begun()
-        started = hub.programs()
-        assert len(started) == 2 and checked.exists()
-        assert hub.stop() == 0
-        assert owner.line() == b""
-    assert not checked.exists()
-    assert not any(Path(f"/proc/{number}").exists() for number in started)
-
-
 # ---- Checks before imports
-
-
-def test_contradictions_of_an_import(place: Place, store: Path) -> None:
-    """They are told as by a check, each once, and the program's own line isn't told beside them."""
-    with Hub(place, store, releases=place.releases) as hub:
-        client, other = hub.client(), hub.client()
-        client.ask("NOTES")
-        notes, reply = notes_of(client, "CHECK wrong")
-        assert (len(notes), reply) == (len(CHANGED), "ERR 32 Contradiction 1 4")
-        assert notes_of(client, "IMPORT wrong") == (notes, reply)
-        assert other.ask("IMPORT wrong") == [reply]
-        assert [hub.told().count(note) for note in notes] == [3, 3]
-        assert hub.told().count("sctd: ") == 3 * len(notes)
-        assert hub.logged(is_alone=False) == [
-            f"{word} wrong: {reply}" for word in ("CHECK", "IMPORT", "IMPORT")]
 
 
 @pytest.mark.parametrize("told, said, status, why", (
@@ -258,49 +233,42 @@ def test_a_check_changes_no_import(place: Place, store: Path, told: str, said: s
     file.write_text(file.read_text("utf-8").rstrip("\r\n"), "utf-8")
     cut_off = f"sctd: warning: {file.name}: its last line has no end; was the file cut off?"
     lines = [*told.splitlines(), cut_off]
-    with Hub(place.wrapped(CHECKED % (told, said, status)), store, releases=place.releases) as hub:
-        hub.owner.ask("NOTES")
+    uncompared = [f"{UNCOMPARED}: {why}"] if why else []
+    with hub_on(place.wrapped(CHECKED % (told, said, status)), store) as hub:
         notes, reply = notes_of(hub.owner, "IMPORT next")
         assert reply == "OK 2 1 0"
-        assert sorted(notes) == sorted([*lines, *([f"hub: {UNCOMPARED}: {why}"] if why else [])])
+        assert sorted(notes) == sorted([*lines, *(f"hub: {text}" for text in uncompared)])
         assert [line for line in hub.told().splitlines() if line.startswith("sctd: ")] == lines
         assert hub.logged(is_alone=False) == [
-            *([f"next: {UNCOMPARED}: {why}"] if why else []), "IMPORT next: OK 2 1 0"]
+            *(f"next: {text}" for text in uncompared), "IMPORT next: OK 2 1 0"]
 
 
-def test_no_copy_before_an_import(place: Place, store: Path, checked: Path) -> None:
-    """Where there can be no copy the import goes on, and that is told; where none is wanted there
-    is none."""
-    checked.mkdir()
-    text = f"{UNCOMPARED}: no copy: File exists"
-    with Hub(place, store, releases=place.releases) as hub:
-        hub.owner.ask("NOTES")
+@pytest.mark.parametrize("is_full, why", (
+    (False, "File exists"), (True, "too little room on the disk")))
+def test_no_copy_before_an_import(place: Place, store: Path, checked: Path, is_full: bool,
+                                  why: str) -> None:
+    """Where there can be no copy, or none that leaves room for a merge, the import goes on, and
+    that is told; where none is wanted there is none."""
+    text = f"{UNCOMPARED}: no copy: {why}"
+    if is_full:
+        place = place.changed("store.py", "\nROOM = 2", "\nROOM = 1 << 40")
+    else:
+        checked.mkdir()
+    with hub_on(place, store) as hub:
         assert notes_of(hub.owner, "IMPORT next") == ([f"hub: {text}"], "OK 2 1 0")
         assert hub.logged() == [f"next: {text}", "IMPORT next: OK 2 1 0"]
-    with Hub(place, store, "--import-unchecked", releases=place.releases) as hub:
-        hub.owner.ask("NOTES")
+        assert hub.owner.ask("CHECK package/Delta") == ["OK 3 1 0"]
+    with hub_on(place, store, "--import-unchecked") as hub:
         assert notes_of(hub.owner, "IMPORT package/Delta") == ([], "OK 3 1 0")
         assert hub.logged() == ["IMPORT package/Delta: OK 3 1 0"]
 
 
-def test_no_room_before_an_import(place: Place, store: Path) -> None:
-    """Nor is there a copy that would leave no room for a merge."""
-    with Hub(place.changed("store.py", "\nROOM = 2", "\nROOM = 1 << 40"), store,
-             releases=place.releases) as hub:
-        hub.owner.ask("NOTES")
-        notes = [f"hub: {UNCOMPARED}: no copy: too little room on the disk"]
-        assert notes_of(hub.owner, "IMPORT next") == (notes, "OK 2 1 0")
-        assert hub.owner.ask("CHECK package/Delta") == ["OK 3 1 0"]
-
-
-def test_a_check_that_takes_too_long(place: Place, store: Path, checked: Path) -> None:
+def test_a_check_that_takes_too_long(waiting: Place, store: Path, checked: Path) -> None:
     """It is ended, and the import goes on."""
     limit = "LONGEST_CHECK = "
-    soon = place.waiting(*CHECKS).changed("checking.py", limit + "3600", limit + "0.5")
-    with Hub(soon, store, releases=place.releases) as hub:
-        hub.owner.ask("NOTES")
-        why = f"{UNCOMPARED}: its check ended without a reply"
-        assert notes_of(hub.owner, "IMPORT next") == ([f"hub: {why}"], "OK 2 1 0")
+    with hub_on(waiting.changed("checking.py", limit + "3600", limit + "0.5"), store) as hub:
+        why = f"hub: {UNCOMPARED}: its check ended without a reply"
+        assert notes_of(hub.owner, "IMPORT next") == ([why], "OK 2 1 0")
         assert len(hub.programs()) == 1 and not checked.exists()
 
 
@@ -309,97 +277,90 @@ def score(number: int) -> int:
     return int(Path(f"/proc/{number}/oom_score_adj").read_text("ascii"))
 
 
-def test_only_imports_wait_for_a_check(place: Place, store: Path, checked: Path) -> None:
+def test_only_imports_wait_for_a_check(waiting: Place, store: Path, checked: Path) -> None:
     """While a release is checked before its import, others ask and make backups. Other imports wait
     for theirs, and are checked on a copy that has the ones before."""
-    waiting, copy = place.waiting(*CHECKS), place.path("copy")
-    write_release(place.releases / "again", {"C": [concept(20, active=0)]})
-    with Hub(waiting, store, releases=place.releases) as hub:
-        first, second, other = (hub.client() for _ in range(3))
-        for client in (first, second):
-            client.ask("NOTES")
-        first.send(b"IMPORT next\n")
+    write_release(store.with_name("releases") / "again", {"C": [concept(20, active=0)]})
+    with hub_on(waiting, store) as hub:
+        second, other = hub.client(), hub.client()
+        second.ask("NOTES")
+        hub.owner.send(b"IMPORT next\n")
         waiting.until_begun()
         assert sorted(map(score, hub.programs())) == [score(hub.process.pid), KILLED_FIRST]
         second.send(b"IMPORT again\n")
         assert other.ask(f"GET C {concept_id(1)} 20250131")[-1] == "END 1"
-        assert other.ask(f"BACKUP {copy}") == ["OK 1 10 1"]
+        assert other.ask(f"BACKUP {waiting.path('copy')}") == ["OK 1 10 1"]
         assert other.ask("STATUS") == ["OK 1 10 1 -"]
-        assert not first.has_reply(0.2) and not second.has_reply()
+        assert not hub.owner.has_reply(0.2) and not second.has_reply()
         waiting.go_on()
-        assert first.read() == ["OK 2 1 0"]
+        assert hub.owner.read() == ["OK 2 1 0"]
         note, reply = second.read()
         assert reply == "ERR 32 Contradiction 1 2" and ": import 2 brought " in note
     assert not checked.exists()
 
 
-def test_one_copy_at_a_time(place: Place, store: Path) -> None:
+def test_one_copy_at_a_time(waiting: Place, store: Path) -> None:
     """The check before an import waits for one that another client wants."""
-    waiting = place.waiting(*CHECKS)
-    with Hub(waiting, store, releases=place.releases) as hub:
-        first, second = hub.client(), hub.client()
-        first.send(f"VERIFY {SNAPSHOT}\n".encode())
+    with hub_on(waiting, store) as hub:
+        other = hub.client()
+        hub.owner.send(f"VERIFY {SNAPSHOT}\n".encode())
         waiting.until_begun()
-        second.send(b"IMPORT next\n")
-        assert not second.has_reply(0.2)
+        other.send(b"IMPORT next\n")
+        assert not other.has_reply(0.2)
         assert len(hub.programs()) == 2
         waiting.go_on()
-        assert (first.read(), second.read()) == ([WHOLE], ["OK 2 1 0"])
+        assert (hub.owner.read(), other.read()) == ([WHOLE], ["OK 2 1 0"])
 
 
-def test_an_import_of_a_hub_that_ends(place: Place, store: Path, checked: Path) -> None:
-    """A hub that is stopped while a release is checked imports nothing, and waits for nothing."""
-    patient = place.waiting(*CHECKS).changed("clients.py", "LAST_SECONDS, WAIT_SECONDS = 2, ",
-                                             "LAST_SECONDS, WAIT_SECONDS = 3600, ")
-    before, program = store.read_bytes(), patient.program.parent
-    imports = store.with_name(store.name + ".imports")
-    listed = imports.read_bytes()
-    with Hub(patient, store, releases=place.releases) as hub:
-        first, second = hub.client(), hub.client()
-        first.send(b"IMPORT next\n")
-        until("the release is checked", (program / "begun").exists)
-        second.send(b"IMPORT package/Delta\n")
+@pytest.mark.parametrize("line", (*(line for line, _ in SOUND), "IMPORT next"))
+def test_what_stays_of_a_hub_that_ends(waiting: Place, store: Path, checked: Path,
+                                       line: str) -> None:
+    """A hub that is stopped while a release is checked waits for nothing, imports nothing, and
+    leaves neither the copy nor the process that checks."""
+    patient = waiting.changed("clients.py", "LAST_SECONDS, WAIT_SECONDS = 2, ",
+                              "LAST_SECONDS, WAIT_SECONDS = 3600, ")
+    kept = store, store.with_name(store.name + ".imports")
+    before = [path.read_bytes() for path in kept]
+    with hub_on(patient, store) as hub:
+        other = hub.client()
+        hub.owner.send(line.encode() + b"\n")
+        waiting.until_begun()
+        other.send(b"IMPORT package/Delta\n")
         started, began = hub.programs(), time.monotonic()
         assert len(started) == 2 and checked.exists()
         assert hub.stop() == 0
         assert time.monotonic() - began < SOON_SECONDS
-        assert first.line() == second.line() == b""
-        assert "IMPORT next: no reply" in hub.logged(is_alone=False)
-    assert store.read_bytes() == before and not checked.exists()
-    assert imports.read_bytes() == listed
+        assert hub.owner.line() == other.line() == b""
+        assert f"{line}: no reply" in hub.logged(is_alone=False)
+    assert [path.read_bytes() for path in kept] == before and not checked.exists()
     assert not any(Path(f"/proc/{number}").exists() for number in started)
 
 
 # ---- What is refused
 
 
-def test_what_stands_in_the_way(place: Place, store: Path, checked: Path) -> None:
+def test_what_stands_in_the_way(hub: Hub, checked: Path) -> None:
     """A copy that a killed hub has left is replaced. Where none can be made the program checks, and
     others wait; a Snapshot isn't compared then."""
-    with Hub(place, store, releases=place.releases) as hub:
-        owner = hub.client()
-        for line, wanted in SOUND:
-            checked.write_bytes(b"left")
-            assert owner.ask(line) == [wanted]
-            assert not checked.exists()
-        checked.mkdir()
-        assert owner.ask("CHECK next") == ["OK 2 1 0"]
-        assert owner.ask(f"VERIFY {SNAPSHOT}") == ["ERR hub Verify no copy: File exists"]
-        assert hub.told().count("no copy to check on: File exists") == 2
+    for line, wanted in SOUND:
+        checked.write_bytes(b"left")
+        assert hub.owner.ask(line) == [wanted]
+        assert not checked.exists()
+    checked.mkdir()
+    assert hub.owner.ask("CHECK next") == ["OK 2 1 0"]
+    assert hub.owner.ask(f"VERIFY {SNAPSHOT}") == ["ERR hub Verify no copy: File exists"]
+    assert hub.told().count("no copy to check on: File exists") == 2
 
 
-def test_names(place: Place, store: Path) -> None:
+def test_names(hub: Hub) -> None:
     """A check and a comparison are refused for what an import is refused for, in its words."""
-    with Hub(place, store, releases=place.releases) as hub:
-        owner = hub.client()
-        owner.ask("NOTES")
-        for names, refusal, told in ((WRONG_NAMES, "ERR 43 Arguments", 0),
-                                     (NAMES_OF_NOTHING, "ERR 45 NoFolder", 1)):
-            for name in names:
-                notes, reply = notes_of(owner, f"IMPORT {name}")
-                assert (reply, len(notes)) == (refusal, told), name
-                for word in ("CHECK", "VERIFY"):
-                    assert notes_of(owner, f"{word} {name}") == (notes, reply), (word, name)
+    for names, refusal, told in ((WRONG_NAMES, "ERR 43 Arguments", 0),
+                                 (NAMES_OF_NOTHING, "ERR 45 NoFolder", 1)):
+        for name in names:
+            notes, reply = notes_of(hub.owner, f"IMPORT {name}")
+            assert (reply, len(notes)) == (refusal, told), name
+            for word in ("CHECK", "VERIFY"):
+                assert notes_of(hub.owner, f"{word} {name}") == (notes, reply), (word, name)
 
 
 def test_a_program_that_ends(place: Place, store: Path) -> None:
@@ -410,18 +371,16 @@ if sys.argv[1] != "serve":
     sys.exit(3)
 os.execv(PROGRAM, [PROGRAM, *sys.argv[1:]])
 """)
-    with Hub(ending, store, releases=place.releases) as hub:
-        owner = hub.client()
+    with hub_on(ending, store) as hub:
         for word, line in (("Check", "CHECK next"), ("Verify", f"VERIFY {SNAPSHOT}")):
-            assert owner.ask(line) == [f"ERR hub {word} the program ended"]
+            assert hub.owner.ask(line) == [f"ERR hub {word} the program ended"]
 
 
 def test_a_program_that_is_gone(place: Place, store: Path) -> None:
     """Where no other one can be started, nothing is checked, and imports go on."""
     gone = place.wrapped("import os, sys\nos.execv(PROGRAM, [PROGRAM, *sys.argv[1:]])\n")
-    with Hub(gone, store, releases=place.releases) as hub:
+    with hub_on(gone, store) as hub:
         gone.program.unlink()
-        hub.owner.ask("NOTES")
         why = f"hub: {gone.program}: No such file or directory"
         assert notes_of(hub.owner, "CHECK next") == ([why], "ERR hub Check the program ended")
         notes = [why, f"hub: {UNCOMPARED}: its check ended without a reply"]
@@ -429,12 +388,10 @@ def test_a_program_that_is_gone(place: Place, store: Path) -> None:
 
 
 @pytest.mark.parametrize("line", ("CHECK wrong", f"VERIFY {SNAPSHOT}"))
-def test_damage_is_told(place: Place, store: Path, line: str) -> None:
+def test_damage_is_told(store: Path, hub: Hub, line: str) -> None:
     """A check that meets damage tells of it, as other lines do."""
-    with Hub(place, store, releases=place.releases) as hub:
-        owner = hub.client()
-        flip(store)
-        reply, = owner.ask(line)
-        assert reply.startswith("ERR 8 ")
-        assert owner.ask("STATUS")[0].endswith(" Damaged")
-        assert hub.stop() == 1
+    flip(store)
+    reply, = hub.client().ask(line)
+    assert reply.startswith("ERR 8 ")
+    assert hub.owner.ask("STATUS")[0].endswith(" Damaged")
+    assert hub.stop() == 1

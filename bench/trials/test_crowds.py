@@ -11,13 +11,14 @@ from pathlib import Path
 import pytest
 
 from harness import HANDING_ON, Hub, Place, Wrong, concept, concept_id
+from soak_model import File, Model
 from test_duties import NOT_A_QUESTION
 from test_sessions import served
 
 # How many clients ask, how often, how many lines at once at most, of a store of so many imports.
 CLIENTS, ROUNDS, MOST_LINES, IMPORTS = 64, 12, 40, 6
 SEED = 20261129
-LONG = "x" * 5_000
+LONG, REFUSED = "x" * 5_000, "IMPORT n1"
 # The hub, with the next two replies exchanged.
 TAKING = "                asker, line = self.on_their_way.popleft()\n"
 EXCHANGING = """\
@@ -30,35 +31,11 @@ SOON = 10
 SLOW_SECONDS = 3
 
 
-class Model:
-    """What one client is told, by the rules of the guide: each import brought one concept."""
-
-    def __init__(self, number: int) -> None:
-        self.chance, self.pin = random.Random(SEED + number), IMPORTS
-
-    def next(self) -> tuple[str, list[str]]:
-        number = self.chance.randint(1, IMPORTS)
-        return self.chance.choice((self.asked, self.asked, self.asked, self.receipt, self.pinned,
-                                   self.unpinned, self.refused))(number)
-
-    def asked(self, number: int) -> tuple[str, list[str]]:
-        rows = ["ROW " + concept(number)] if number <= self.pin else []
-        return f"HISTORY C {concept_id(number)}", [*rows, f"END {len(rows)}"]
-
-    def receipt(self, number: int) -> tuple[str, list[str]]:
-        there = [f"OK {number} 1 20250131"]
-        return f"RECEIPT {number}", there if number <= self.pin else ["ERR 44 PinRange"]
-
-    def pinned(self, number: int) -> tuple[str, list[str]]:
-        self.pin = number
-        return f"PIN {number}", [f"OK {number}"]
-
-    def unpinned(self, _: int) -> tuple[str, list[str]]:
-        self.pin = IMPORTS
-        return "UNPIN", ["OK"]
-
-    def refused(self, number: int) -> tuple[str, list[str]]:
-        return (LONG, ["ERR 40 Long"]) if number == 1 else ("IMPORT n1", NOT_A_QUESTION)
+def drawn_line(chance: random.Random) -> str:
+    number = chance.randint(1, IMPORTS)
+    history = f"HISTORY C {concept_id(number)}"
+    return chance.choice((history, history, history, f"RECEIPT {number}", f"PIN {number}", "UNPIN",
+                          LONG if number == 1 else REFUSED))
 
 
 @pytest.fixture(name="store")
@@ -71,18 +48,24 @@ def some_imports(place: Place) -> Path:
 
 
 def ask_all(place: Place, store: Path) -> None:
-    """Many clients send lines at the same time, and each is told what its own model says."""
+    """Many clients send lines at the same time, and each is told what the model of the soak says to
+    a session of its own: each import brought one concept."""
+    model = Model({f"n{number}": [File("C", True, [concept(number).split("\t")])]
+                   for number in range(1, IMPORTS + 1)})
+    for name in model.releases:
+        model.reply(f"0 IMPORT {name}")
     with Hub(place, store, asks=True) as hub:
         chance = random.Random(SEED)
-        crowd = [(hub.asker(), Model(number)) for number in range(CLIENTS)]
+        clients = [hub.asker() for _ in range(CLIENTS)]
         for _ in range(ROUNDS):
-            asked = [(client, [model.next() for _ in range(chance.randint(1, MOST_LINES))])
-                     for client, model in crowd]
+            asked = [(client, [drawn_line(chance) for _ in range(chance.randint(1, MOST_LINES))])
+                     for client in clients]
             for client, lines in asked:
-                client.send("".join(line + "\n" for line, _ in lines).encode())
+                client.send("".join(line + "\n" for line in lines).encode())
             for client, lines in chance.sample(asked, len(asked)):
-                for line, wanted in lines:
-                    assert client.read() == wanted, line[:30]
+                for line in lines:
+                    said = model.reply(f"{clients.index(client)} {line}")
+                    assert client.read() == (NOT_A_QUESTION if line == REFUSED else said), line[:30]
 
 
 def test_own_replies(place: Place, store: Path) -> None:

@@ -16,7 +16,6 @@ import pytest
 from harness import HANDING_ON, HUB_SECONDS, RECORDER, RELEASES, TOP, TRACE, Client, Hub, Place
 from harness import Threads, Wrong, concept, concept_id, has_strace, mode, until, write_release
 from test_copies import begin_copy, slow_copies
-import make_release as rf2
 
 NOT_A_QUESTION = ["ERR hub NotAQuestion"]
 STATUS = ["OK 2 10 2 -"]
@@ -36,12 +35,12 @@ ODD = [
     "GET\rIMPORT r3", "\rIMPORT r3", "0 IMPORT r3", "1 UNPIN", "STATUS\0", " STATUS", "status",
     "STATUS\tx", "STATUS\r\r", "", "\r", " ", "\v", "CHECK r3", "STATUS\u2028IMPORT r3", "ŠTATUS"]
 # Questions that are refused, which the program does itself.
-FAULTY = {"STATUS ": 43, "STATUS  ": 43, "GET  C 1000004 20200131": 43, "GET": 43, "PIN 9": 44,
-          "UNPIN IMPORT r3": 43, "GET C 1000004 20200131\0": 43, "AT": 43, "AT 1": 43,
-          "AT 1 IMPORT r3": 43, "AT 1 UNPIN": 43, "AT 1 AT 1 DATES": 43, "AT 3 DATES": 44,
-          "DATES ": 43, "ANCESTORS 1000015 20200131": 43, "DIGEST ": 43, "DIGEST 1": 43,
-          "AT 1 CHECK r3": 43, "AT 3 DIGEST": 44, "AT 01 DIGEST": 43, "AT 12345678901 DIGEST": 43,
-          "AT 1  DIGEST": 43, "AT DIGEST": 43, "AT 1 DIGEST ": 43}
+FAULTY = [
+    "STATUS ", "STATUS  ", "GET  C 1000004 20200131", "GET", "PIN 9", "UNPIN IMPORT r3",
+    "GET C 1000004 20200131\0", "AT", "AT 1", "AT 1 IMPORT r3", "AT 1 UNPIN", "AT 1 AT 1 DATES",
+    "AT 3 DATES", "DATES ", "ANCESTORS 1000015 20200131", "DIGEST ", "DIGEST 1", "AT 1 CHECK r3",
+    "AT 3 DIGEST", "AT 01 DIGEST", "AT 12345678901 DIGEST", "AT 1  DIGEST", "AT DIGEST",
+    "AT 1 DIGEST "]
 # Those for which the hub asks for rows, and what it asks for first.
 MAYBE, PAGE_ROWS = ("AT 3 DIGEST", "AT 01 DIGEST"), 250
 FIRST_PAGE = f"ROWS C - - {PAGE_ROWS}"
@@ -50,38 +49,28 @@ FIRST_PAGE = f"ROWS C - - {PAGE_ROWS}"
 # What examples/digest.py says of r1, and of r1 and r2.
 DIGEST_IN_2020 = "f7a233c7191872b693ccbfd82de00044fc814d77d323e51e5fbafb5e06671b5b"
 DIGEST_IN_2021 = "c90a8f82de0dccf7f92d4d999bde82dad4914097938c58c11ff3ea917dfec364"
-# An auditor's questions, whose replies are read off the releases.
-MEMBER = ("ROW 0b6a0c2e-5d0f-4c53-9f6e-8d9d2a7b1c01\t20210131\t1\t900000000000207008"
-          "\t900000000000527005\t1000004\t2000001")
+# An auditor's questions. (A store of this layout keeps no members of reference sets.)
 AUDIT = [
-    ("DATES", ["DATE 20200131", "DATE 20210131", "END 2"]),
-    ("ANCESTORS 1000004 20200630", ["ID 138875005", "END 1"]),
-    ("DESCENDANTS 138875005 20200630", ["ID 1000004", "END 1"]),
-    ("DELTA A 20200131 20210131 - 10", [MEMBER, "END 1"]),
-    ("REPLACES 2000001 20210131", [MEMBER, "END 1"]),
-    ("TIMELINE A 1000004", [MEMBER, "END 1"]),
-    # (A store of this layout keeps no members of reference sets.)
-    ("MEMBERS 900000000000509007 20210131 - 10", ["ERR 14 LaterVersion"]),
-    ("VALUES 900000000000509007 20210131 - 10", ["ERR 14 LaterVersion"]),
-    ("CALLED 1000004 20210131 900000000000509007", ["ERR 14 LaterVersion"]),
-    ("DIGEST", ["OK " + DIGEST_IN_2021])]
-AT_A_PIN = [("AT 2 " + line, wanted) for line, wanted in AUDIT] + [
-    ("AT 1 DATES", ["DATE 20200131", "END 1"]), ("AT 1 TIMELINE A 1000004", ["END 0"]),
-    ("AT 1 DIGEST", ["OK " + DIGEST_IN_2020])]
+    "DATES", "ANCESTORS 1000004 20200630", "DESCENDANTS 138875005 20200630",
+    "DELTA A 20200131 20210131 - 10", "REPLACES 2000001 20210131", "TIMELINE A 1000004",
+    "MEMBERS 900000000000509007 20210131 - 10", "VALUES 900000000000509007 20210131 - 10",
+    "CALLED 1000004 20210131 900000000000509007", "DIGEST"]
+AT_A_PIN = [f"AT {pin} {line}" for pin in (1, 2) for line in AUDIT]
 
 
 def test_questions_alone(place: Place, store: Path) -> None:
-    """On the socket for questions nothing can be changed; the replies come in their order."""
+    """On the socket for questions nothing can be changed, and what the program says by itself is
+    answered; the replies come in their order."""
     before = store.read_bytes()
+    by_program = dict(zip(AUDIT + FAULTY, place.ask(store, AUDIT + FAULTY)))
+    asked = [(line, NOT_A_QUESTION) for line in CHANGES + ODD]
+    asked += [("STATUS", STATUS), ("STATUS\r", STATUS), ("x" * 5_000, ["ERR 40 Long"])]
+    asked += [("RECEIPT 1", ["OK 1 6 20200131"]), ("PIN 1", ["OK 1"]), ("UNPIN", ["OK"])]
+    asked += zip(AT_A_PIN, place.ask(store, AT_A_PIN))
+    assert ("AT 1 DIGEST", ["OK " + DIGEST_IN_2020]) in asked
     with Hub(place, store, asks=True) as hub:
-        asked = [(line, NOT_A_QUESTION) for line in CHANGES + ODD]
-        asked += [("STATUS", STATUS), ("STATUS\r", STATUS), ("x" * 5_000, ["ERR 40 Long"])]
-        asked += [("RECEIPT 1", ["OK 1 6 20200131"]), ("PIN 1", ["OK 1"]), ("UNPIN", ["OK"])]
-        asked += AT_A_PIN
-        for line, wanted in AUDIT + asked:
+        for line, wanted in [*by_program.items(), *asked]:
             assert hub.guest.ask(line) == wanted, line[:40]
-        for line, number in FAULTY.items():
-            assert hub.guest.ask(line)[0].split(" ")[:2] == ["ERR", str(number)], line
         mixed = [asked[place * 7 % len(asked)] for place in range(200)]
         hub.guest.send(b"".join(line.encode() + b"\n" for line, _ in mixed))
         for line, wanted in mixed:
@@ -89,13 +78,6 @@ def test_questions_alone(place: Place, store: Path) -> None:
         assert hub.guest.ask("STATUS") == STATUS
         assert (hub.stop(), hub.told()) == (0, "")
     assert store.read_bytes() == before
-
-
-def test_questions_for_all(place: Place, store: Path) -> None:
-    """A hub may have that socket alone."""
-    with Hub(place, store, has_own=False, asks=True) as hub:
-        assert hub.asker().ask("STATUS") == STATUS
-        assert not hub.socket.exists()
 
 
 @pytest.mark.parametrize("options, wanted", (
@@ -113,7 +95,7 @@ def test_what_arrives(place: Place, store: Path) -> None:
     """What comes to the program from the socket for questions is questions, each of its session."""
     recording = place.wrapped(RECORDER)
     with Hub(recording, store, asks=True) as hub:
-        for line in CHANGES + ODD + list(FAULTY):
+        for line in CHANGES + ODD + FAULTY:
             hub.guest.ask(line)
     arrived = recording.path("lines").read_bytes().decode().split("\n")
     asked = [line.replace("DIGEST", FIRST_PAGE) if line in MAYBE else line for line in FAULTY]
@@ -244,8 +226,11 @@ def test_no_reply(place: Place, store: Path) -> None:
         assert hub.logged(is_alone=False) == ["IMPORT r1\\x1b: no reply"]
 
 
-def check_of(line: str) -> str:
-    return line.replace("IMPORT", "CHECK")
+def check_and_import(client: Client, line: str) -> str:
+    """The reply to an import, which a check said before."""
+    reply = client.ask(line.replace("IMPORT", "CHECK"))
+    assert client.ask(line) == reply
+    return reply[0]
 
 
 def test_nights(place: Place) -> None:
@@ -254,8 +239,7 @@ def test_nights(place: Place) -> None:
     with Hub(place, place.make_store(), releases=place.releases) as hub:
         client, other = hub.client(), hub.client()
         for number, line in enumerate(lines, 1):
-            for asked in (check_of(line), line):
-                assert client.ask(asked) == [f"OK {number} 1 0"]
+            assert check_and_import(client, line) == f"OK {number} 1 0"
         until("the segments are merged",
               lambda: int(other.ask("STATUS")[0].split(" ")[3]) <= MERGE_ABOVE)
         assert other.ask("STATUS")[0].split(" ")[:3] == ["OK", str(NIGHTS), str(NIGHTS)]
@@ -307,13 +291,10 @@ def test_full_store(place: Place) -> None:
         assert owner.read() == ["OK" + f" {ALMOST_FULL}" * 3]
         until("a merge", lambda: owner.ask("STATUS")[0].endswith(f" {ALMOST_FULL} -"))
     with Hub(place, own, "--merge-above", str(MOST_SEGMENTS), releases=releases) as hub:
-        replies_to = zip(lines[-2:], (f"OK {len(lines) - 1} 1 0", "ERR 6 TooManySegments"))
-        for line, reply in replies_to:
-            for asked in (check_of(line), line):
-                assert hub.owner.ask(asked) == [reply]
+        last = [check_and_import(hub.owner, line) for line in lines[-2:]]
+        assert last == [f"OK {len(lines) - 1} 1 0", "ERR 6 TooManySegments"]
     with Hub(place, own, "--merge-above", str(ALMOST_FULL), releases=releases) as hub:
-        for asked in (check_of(lines[-1]), lines[-1]):
-            assert hub.owner.ask(asked) == [f"OK {len(lines)} 1 0"]
+        assert check_and_import(hub.owner, lines[-1]) == f"OK {len(lines)} 1 0"
 
 
 def store_to_merge(place: Place) -> Path:
@@ -462,19 +443,3 @@ def test_types(place: Place) -> None:
                           stdout=subprocess.PIPE, stderr=subprocess.STDOUT, check=False)
     assert (done.returncode, done.stdout.decode()) == (
         0, f"Success: no issues found in {len(files)} source files\n")
-
-
-def test_members(place: Place) -> None:
-    """Members of reference sets come as the release has them, whatever is in their columns."""
-    odd = "\t".join(["00000000-0000-4000-8000-000000000001", "20200131", "1", str(rf2.CORE),
-                     str(rf2.DESCRIPTORS), "1000015", "a\rROW b", "", "\u2028END 1\u0085OK"])
-    write_release(place.releases / "odd", {"RefsetDescriptor": [odd]})
-    with Hub(place, place.make_store(layout=3), releases=place.releases, asks=True) as hub:
-        own, asking = hub.client(), hub.asker()
-        assert own.ask("IMPORT odd") == ["OK 1 1 0"]
-        last = f"{rf2.DESCRIPTORS} 20200131 - 1"
-        for line in ("MEMBERS " + last, "VALUES " + last, "AT 1 VALUES " + last,
-                     "TIMELINE M 1000015", "PAGE M 20200131 - 1000"):
-            assert asking.ask(line) == ["ROW " + odd, "END 1"]
-        assert asking.ask(f"CALLED 1000004 20200131 {rf2.DESCRIPTORS}") == ["END 0"]
-        assert own.ask(f"BACKUP {place.path('copy')}") == ["OK 1 1 1"]

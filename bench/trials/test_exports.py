@@ -10,7 +10,6 @@ import threading
 from collections import Counter
 from collections.abc import Iterator, Sequence
 from pathlib import Path
-from typing import NamedTuple
 
 import pytest
 
@@ -21,36 +20,32 @@ from test_readers import CHAINS, Script
 
 EXPORT, FOLLOW = "examples/export.py", "examples/follow.py"
 SEED, PACKAGE_ROWS = 3, 3_000
+# The releases of the stores that keep standing, in their order.
+RELEASES_OF_MADE = ("full", "chains", "delta", "again")
+# A member with columns that may be taken for more lines than one.
+ODD = "\t".join(["00000000-0000-4000-8000-000000000001", "20200131", "1", str(rf2.CORE),
+                 str(rf2.DESCRIPTORS), "1000015", "a\rROW b", "", "\u2028END 1\u0085OK"])
 # Rows of an import that takes a follower some time, one by one; and more than a pipe takes.
 MANY_ROWS = 4_000
 
 
-class Made(NamedTuple):
-    """A hub on a store that keeps standing, and what the store was made of."""
-
-    place: Place
-    hub: Hub
-    releases: Sequence[Path]
-
-
 @pytest.fixture(scope="module", params=(2, 3))
-def made(tried: Place, request: pytest.FixtureRequest) -> Iterator[Made]:
-    """Stores of layout 2 and 3: several versions of components, repeated rows, CRs in terms."""
+def made(tried: Place, request: pytest.FixtureRequest) -> Iterator[Hub]:
+    """Hubs on stores of layout 2 and 3: many versions of components, repeated rows, odd texts."""
     layout: int = request.param
     place = tried.below(f"exports of layout {layout}")
     rf2.make(place.releases, PACKAGE_ROWS, SEED, is_package=True)
-    write_release(place.releases / "chains", CHAINS)
+    write_release(place.releases / "chains", {**CHAINS, "RefsetDescriptor": [ODD]})
     shutil.copytree(place.releases / "delta", place.releases / "again")
     store = place.make_store(layout=layout)
-    releases = [place.releases / name for name in ("full", "chains", "delta", "again")]
-    place.import_all(store, releases)
+    place.import_all(store, [place.releases / name for name in RELEASES_OF_MADE])
     with Hub(place, store, releases=place.releases, asks=True) as hub:
-        yield Made(place, hub, releases)
+        yield hub
 
 
-def printed(place: Place, hub: Hub, *words: str) -> bytes:
+def printed(hub: Hub, *words: str) -> bytes:
     """What export.py prints, and that it says what it printed."""
-    status, output, told = place.run_script(EXPORT, hub.questions, *words)
+    status, output, told = hub.place.run_script(EXPORT, hub.questions, *words)
     rows = output.encode()
     assert status == 0, told
     assert told.startswith("export: pin ") and told.endswith(
@@ -62,21 +57,22 @@ def printed(place: Place, hub: Hub, *words: str) -> bytes:
 
 
 @pytest.mark.parametrize("pin", (1, 2, 3, 4))
-def test_exports(made: Made, pin: int) -> None:
+def test_exports(made: Hub, pin: int) -> None:
     """The releases' rows, with the store's digest as their SHA-256, in pages of whatever size."""
-    found = printed(made.place, made.hub, "--pin", str(pin), "--check")
+    found = printed(made, "--pin", str(pin), "--check")
     digest, all_files = hashlib.sha256(found).hexdigest(), ["--all"] if b"\nM " in found else []
-    assert made.hub.asker().ask(f"AT {pin} DIGEST") == [f"OK {digest}"]
-    assert digest == made.place.digest_of(*all_files, *made.releases[:pin])
+    assert made.asker().ask(f"AT {pin} DIGEST") == [f"OK {digest}"]
+    releases = [made.place.releases / name for name in RELEASES_OF_MADE[:pin]]
+    assert digest == made.place.digest_of(*all_files, *releases)
     for limit in ("7", "999"):
-        assert printed(made.place, made.hub, "--pin", str(pin), "--limit", limit) == found
-    if pin == len(made.releases):
-        assert printed(made.place, made.hub, "--limit", "1") == found
+        assert printed(made, "--pin", str(pin), "--limit", limit) == found
+    if pin == len(RELEASES_OF_MADE):
+        assert printed(made, "--limit", "1") == found
 
 
 def test_export_of_no_import(place: Place) -> None:
     with Hub(place, place.make_store(), asks=True) as hub:
-        assert printed(place, hub, "--check") == b""
+        assert printed(hub, "--check") == b""
 
 
 def test_imports_beside_an_export(place: Place) -> None:
@@ -93,21 +89,21 @@ def test_imports_beside_an_export(place: Place) -> None:
         found = first + running.output.read()
         assert running.ended()[0] == 0
         assert hashlib.sha256(found).hexdigest() == before
-        assert printed(place, hub, "--pin", "1") == found
-        assert printed(place, hub) != found
+        assert printed(hub, "--pin", "1") == found
+        assert printed(hub) != found
 
 
 @pytest.mark.parametrize("words, why", (
     (["--pin", "9"], "PIN 9 was answered ERR 44 PinRange"),
     (["--limit", "0"], "ROWS C - - 0 was answered ERR 43 Arguments"),
     (["--limit", "1001"], "ROWS C - - 1001 was answered ERR 43 Arguments")))
-def test_refused_exports(made: Made, words: list[str], why: str) -> None:
-    ran = made.place.run_script(EXPORT, made.hub.questions, *words)
+def test_refused_exports(made: Hub, words: list[str], why: str) -> None:
+    ran = made.place.run_script(EXPORT, made.questions, *words)
     assert ran == (1, "", f"export: {why}\n")
 
 
-def test_exports_that_nobody_reads(made: Made) -> None:
-    unread = Script(made.place, EXPORT, made.hub.questions)
+def test_exports_that_nobody_reads(made: Hub) -> None:
+    unread = Script(made.place, EXPORT, made.questions)
     unread.output.close()
     assert unread.ended() == (1, "export: [Errno 32] Broken pipe\n")
 
@@ -140,9 +136,9 @@ def test_exports_that_arent_whole(place: Place, count: int, why: str) -> None:
 # ---- follow.py
 
 
-def followed(place: Place, hub: Hub, name: str, *words: str) -> list[str]:
+def followed(hub: Hub, name: str, *words: str) -> list[str]:
     """The receipts that a run prints."""
-    ran = place.run_script(FOLLOW, hub.questions, place.path(name), *words)
+    ran = hub.place.run_script(FOLLOW, hub.questions, hub.place.path(name), *words)
     assert (ran.status, ran.faults) == (0, "")
     return ran.output.splitlines()
 
@@ -153,11 +149,11 @@ def rows_of(path: Path) -> list[tuple[str, str, int]]:
         return file.execute("select kind, row, import from rows").fetchall()
 
 
-def is_whole(path: Path, place: Place, hub: Hub) -> None:
+def is_whole(hub: Hub, path: Path) -> None:
     """Each row of the store is there once, and each import has as many as its receipt says."""
     found = rows_of(path)
     # (A term may have a CR, at which `splitlines` ends a line, too.)
-    whole = printed(place, hub).split(b"\n")[:-1]
+    whole = printed(hub).split(b"\n")[:-1]
     assert sorted(f"{kind} {row}".encode() for kind, row, _ in found) == sorted(whole)
     with contextlib.closing(sqlite3.connect(path)) as file:
         told = file.execute("select number, receipt from imports order by number").fetchall()
@@ -170,12 +166,12 @@ def is_whole(path: Path, place: Place, hub: Hub) -> None:
 
 
 @pytest.mark.parametrize("limit", ("1", "7", "1000"))
-def test_followers(made: Made, limit: int) -> None:
+def test_followers(made: Hub, limit: int) -> None:
     """All imports at once, whatever the size of pages; then there is nothing more."""
     name = f"followed by {limit}"
-    assert len(followed(made.place, made.hub, name, "--limit", str(limit))) == len(made.releases)
-    is_whole(made.place.path(name), made.place, made.hub)
-    assert followed(made.place, made.hub, name) == []
+    assert len(followed(made, name, "--limit", str(limit))) == len(RELEASES_OF_MADE)
+    is_whole(made, made.place.path(name))
+    assert followed(made, name) == []
 
 
 def test_followers_that_are_begun_again(place: Place) -> None:
@@ -187,8 +183,8 @@ def test_followers_that_are_begun_again(place: Place) -> None:
     with Hub(place, store, releases=place.releases, asks=True) as hub:
         for name, new in (("r1", 6), ("r2", 4)):
             assert hub.owner.ask(f"IMPORT {name}")[0].split()[2] == str(new)
-            assert len(followed(place, hub, "file")) == 1
-            is_whole(path, place, hub)
+            assert len(followed(hub, "file")) == 1
+            is_whole(hub, path)
         assert hub.owner.ask("IMPORT many")[0] == f"OK 3 {MANY_ROWS} 0"
         for _ in range(3):
             killed = Script(place, FOLLOW, hub.questions, path, "--limit", "1")
@@ -197,8 +193,8 @@ def test_followers_that_are_begun_again(place: Place) -> None:
             assert killed.ended()[0] == -signal.SIGKILL
             assert {number for _, _, number in rows_of(path)} == {1, 2}
         assert hub.owner.ask("IMPORT r3")[0].startswith("OK 4 2 ")
-        assert len(followed(place, hub, "file")) == 2
-        is_whole(path, place, hub)
+        assert len(followed(hub, "file")) == 2
+        is_whole(hub, path)
 
 
 def test_followers_that_stay(place: Place, store: Path) -> None:
@@ -212,7 +208,7 @@ def test_followers_that_stay(place: Place, store: Path) -> None:
         assert staying.output.readline().startswith(b"OK 3 2 ")
         staying.process.send_signal(signal.SIGINT)
         assert staying.ended() == (-signal.SIGINT, "")
-        is_whole(place.path("file"), place, hub)
+        is_whole(hub, place.path("file"))
         assert hub.client().ask("IMPORT r3")[0].startswith("OK 4 0 ")
         left = Script(place, FOLLOW, hub.questions, place.path("file"), "--stay")
         assert left.output.readline().startswith(b"OK 4 0 ")
@@ -226,7 +222,7 @@ def test_followers_of_another_store(place: Place, store: Path, names: list[str])
     other = place.make_store("other")
     place.import_all(other, [RELEASES / name for name in names])
     with Hub(place, store, asks=True) as hub:
-        assert len(followed(place, hub, "file")) == 2
+        assert len(followed(hub, "file")) == 2
     before = rows_of(place.path("file"))
     with Hub(place, other, asks=True) as hub:
         ran = place.run_script(FOLLOW, hub.questions, place.path("file"))

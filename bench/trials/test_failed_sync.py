@@ -2,38 +2,39 @@
 
 Linux forgets the pages of a file whose write failed: a later read gets from memory what the medium
 doesn't have. This makes a file system on a loop device, lets the last sync of an import fail,
-starts the program again as the hub does, stops the next import between two of its syncs, and looks
+starts the program again as the hub does, kills the next import before one of its syncs, and looks
 at what the medium has. It fails if the import that was confirmed before isn't told both times: the
 hub has to drop what memory keeps of the file.
 
-It takes root, strace, e2fsprogs, util-linux and a loop device; what this machine lacks is skipped.
+It takes root, a C compiler, e2fsprogs, util-linux and a loop device; what this machine lacks is
+skipped.
 """
 
 from __future__ import annotations
 
 import os
+import shlex
 import shutil
-import signal
 import subprocess
 import sys
-import time
 from pathlib import Path
 
 import pytest
 
-from harness import BLOCK, RELEASES, TOP, Place
+from harness import BLOCK, RELEASES, TOP, Place, Ran
+from moments import Library, Moment
+from test_files import library as library
 
 sys.path.append(str(TOP / "service"))
 from sctd_service.hub import opening  # noqa: E402
 
 # An import's syncs: two of the opening, then one of the segment, of the gate that is closed, of the
 # content, and of the gate that is opened.
-CONTENT_SYNC = 5
+CONTENT_SYNC, GATE_SYNC = 5, 6
 # The byte of a gate that is open.
 OPEN = 0xA5
-# How often it is looked if an import is stopped, and how many seconds are between.
-LOOKS, BETWEEN_LOOKS = 400, 0.05
-TOOLS = ("strace", "mkfs.ext4", "filefrag", "mount", "umount", "truncate", "fallocate", "dd")
+KILLING = "kill -9 $PPID"
+TOOLS = ("mkfs.ext4", "filefrag", "mount", "umount", "truncate", "fallocate", "dd")
 
 
 def run(*words: str | Path, check: bool = True) -> subprocess.CompletedProcess[str]:
@@ -91,11 +92,12 @@ class Medium:
                 return int(parts[3]) + block - int(parts[1])
         pytest.skip("filefrag doesn't say where the store lies")
 
-    def refuse(self, block: int) -> None:
-        """Lets each write of this block of the store fail."""
-        at = self.block_of(block) * BLOCK
-        run("fallocate", "-p", "-o", str(at), "-l", str(BLOCK), self.image)
-        run("dd", "if=/dev/zero", f"of={self.filler}", f"bs={BLOCK}", check=False)
+    def refusing(self, block: int) -> str:
+        """A command that lets each write of this block of the store fail."""
+        begin, size = str(self.block_of(block) * BLOCK), str(BLOCK)
+        return "; ".join(map(shlex.join, (
+            ["fallocate", "-p", "-o", begin, "-l", size, str(self.image)],
+            ["dd", "status=none", "if=/dev/zero", f"of={self.filler}", f"bs={size}"])))
 
     def accept(self) -> None:
         self.filler.unlink()
@@ -117,44 +119,32 @@ def status(place: Place, store: Path) -> str:
                      given="0 STATUS\n").output.strip()
 
 
-def stopped_import(place: Place, medium: Medium, release: str, sent: str) -> subprocess.Popen[str]:
-    """An import that gets a signal at one of its syncs; the opening makes the first one."""
-    return subprocess.Popen(["strace", "-f", "-o", place.path("trace"), "-e", "trace=fsync", "-e",
-                             f"inject=fsync:signal={sent}:when={CONTENT_SYNC}", place.program,
-                             "import", "--store", medium.store, "--releases", RELEASES, release],
-                            stdout=subprocess.PIPE, stderr=subprocess.DEVNULL, text=True)
-
-
-def wait_for_stop(trace: Path) -> int:
-    """The process that the trace says is stopped."""
-    for _ in range(LOOKS):
-        time.sleep(BETWEEN_LOOKS)
-        for line in trace.read_text("utf-8", "replace").split("\n") if trace.exists() else ():
-            if "stopped by SIGSTOP" in line:
-                return int(line.split()[0])
-    pytest.skip("strace doesn't stop the import")
+def imported(place: Place, library: Library, store: Path, release: str, sync: int,
+             does: str) -> Ran:
+    """An import, and a command that is run before one of its syncs."""
+    around = library.around([Moment("fsync", "store", sync, sync, 0, does)])
+    ran = place.run("import", "--store", store, RELEASES / release, around=around)
+    assert library.met() == [0]
+    return ran
 
 
 @pytest.mark.skipif(os.geteuid() != 0, reason="it takes root")
 @pytest.mark.skipif(not all(map(shutil.which, TOOLS)), reason="a tool is missing")
-def test_failed_sync(place: Place) -> None:
+def test_failed_sync(place: Place, library: Library) -> None:
     """The import before it is what the server says after the restart, and what the medium has."""
     with Medium(place) as medium:
-        place.done("init", "--store", medium.store)
-        assert place.import_one(medium.store, RELEASES / "r1") == "OK 1 6 0"
+        store = medium.store
+        place.done("init", "--store", store)
+        assert place.import_one(store, RELEASES / "r1") == "OK 1 6 0"
         os.sync()
         # The last sync of the import after it is that of this gate.
-        older = older_gate(medium.store)
-        import_of_r2 = stopped_import(place, medium, "r2", "STOP")
-        stopped = wait_for_stop(place.path("trace"))
-        medium.refuse(older)
-        os.kill(stopped, signal.SIGCONT)
-        reply = import_of_r2.communicate()[0].strip()
-        if not reply.startswith("ERR 2 "):
-            pytest.skip(f"the medium took the block: {reply!r}")
+        refusing = medium.refusing(older_gate(store))
+        ran = imported(place, library, store, "r2", GATE_SYNC, refusing)
+        if not ran.output.startswith("ERR 2 "):
+            pytest.skip(f"the medium took the block: {ran.output!r}")
         medium.accept()
-        opening.drop_pages(str(medium.store), is_read_only=False)
-        assert status(place, medium.store) == "OK 1 6 1 -"
-        stopped_import(place, medium, "r3", "KILL").communicate()
+        opening.drop_pages(str(store), is_read_only=False)
+        assert status(place, store) == "OK 1 6 1 -"
+        imported(place, library, store, "r3", CONTENT_SYNC, KILLING)
         medium.mount_again()
-        assert status(place, medium.store) == "OK 1 6 1 -"
+        assert status(place, store) == "OK 1 6 1 -"

@@ -10,8 +10,9 @@ import resource
 import shutil
 import subprocess
 import time
-from collections.abc import Callable, Sequence
+from collections.abc import Callable, Iterator, Sequence
 from pathlib import Path
+from typing import NamedTuple
 
 import pytest
 
@@ -25,9 +26,12 @@ CLIENT, TAKE = "examples/client.py", "examples/take_copy.py"
 # What the guide tells others to compute of a release.
 DIGEST = ("cd \"$1\" && find -L Terminology Refset -maxdepth 2 -type f -print0 2> /dev/null | "
           "LC_ALL=C sort -z | xargs -0 sha256sum -z | sha256sum")
-# How often a hub is killed, and after how many seconds at most since its first import.
-KILLS, KILL_SECONDS = 50, 0.15
-SEED = 11
+# How often a hub is killed, and after how many imports and then how many seconds at most. By this
+# seed there are 30 imports at least.
+KILLS, KILL_IMPORTS, KILL_SECONDS = 50, 1, 0.15
+SEED = 18
+# The calls that are traced to see what is synced.
+TRACED_CALLS = ("-s", "400", "-e", "trace=openat,pwrite64,write,sendto,fsync,exit_group")
 # Lines of the hub's code.
 DIGESTING, SYNCING = "                digest.update(part)\n", "            os.fsync(number)\n"
 
@@ -82,10 +86,23 @@ def imported(place: Place, store: Path, made: Sequence[Path]) -> list[str]:
         return rows(hub.owner)
 
 
-def begins(place: Place, store: Path, tells: Sequence[str], lines: Sequence[str]) -> None:
-    """A hub that is started tells this of the list, and answers these rows of it."""
-    with Hub(place, store) as hub:
-        assert (told(hub), rows(hub.client())) == (tells, lines)
+def lacks(lines: Sequence[str]) -> list[str]:
+    """What is told of a list where some of these imports have no line."""
+    lacking = [number for number, line in enumerate(lines, 1) if line.endswith(NOTHING)]
+    return [f"it has no line for {len(lacking)} of {len(lines)} imports, the first of which is "
+            f"{lacking[0]}"] if lacking else []
+
+
+def begins(place: Place, store: Path, tells: Sequence[str], lines: Sequence[str],
+           *made: Path) -> None:
+    """A hub that is started tells this of the list, and which lines it lacks. It answers these rows
+    of it, the last ones after the import of these releases."""
+    with Hub(place, store, releases=place.releases) as hub:
+        before = lines[: len(lines) - len(made)]
+        assert (told(hub), rows(hub.owner)) == ([*tells, *lacks(before)], before)
+        for number, release in enumerate(made, len(before) + 1):
+            assert hub.owner.ask(f"IMPORT {release.name}") == [f"OK {number} 1 0"]
+        assert rows(hub.owner) == lines
 
 
 def without_hub(place: Place, store: Path) -> Ran:
@@ -93,15 +110,23 @@ def without_hub(place: Place, store: Path) -> Ran:
     return place.run_script(HUB, "imports", "--program", place.program, "--store", store)
 
 
+def odd_release(folder: Path) -> Path:
+    """A release with files that its digest has and with others, under odd names."""
+    odd = write_release(folder, {"C": [concept(1)]})
+    for name in ("Refset/b/1 2\n\\.txt", "Refset/b-c/1.txt", "Refset/b/deeper/x", "Refset/y",
+                 "Terminology/d/z", "Terminology/d.e/\u00fc", "outside"):
+        (odd / name).parent.mkdir(parents=True, exist_ok=True)
+        (odd / name).write_text(name, encoding="utf-8")
+    (odd / "Terminology/nowhere").symlink_to("no file")
+    (odd / "Terminology/elsewhere.txt").symlink_to(odd / "outside")
+    os.mkfifo(odd / "Refset/b-c/pipe")
+    (odd / "Terminology/long").write_bytes(os.urandom(200_000))
+    return odd
+
+
 def test_the_list(place: Place) -> None:
     """Confirmed imports have a line, and nothing else; others compute the same digest."""
-    store = place.make_store(layout=3)
-    odd = write_release(place.releases / "odd" / "Full", {"C": [concept(1)]})
-    for name in ("Refset/b", "Refset/b-c", "Refset/b/deeper", "Terminology/d"):
-        (odd / name).mkdir(parents=True)
-    for name in ("Refset/b/1 2\n\\.txt", "Refset/b-c/1.txt", "Refset/b/deeper/x", "Refset/y",
-                 "Terminology/d/z", "outside"):
-        (odd / name).write_text(name, encoding="utf-8")
+    store, odd = place.make_store(layout=3), odd_release(place.releases / "odd" / "Full")
     place.link_releases()
     lines = [line_of(1, RELEASES / "r1", 6), line_of(2, RELEASES / "r2", 4),
              line_of(3, RELEASES / "r1", 0, 6),
@@ -130,63 +155,54 @@ def test_the_list(place: Place) -> None:
         assert without_hub(place, store)[:2] == (1, "")
 
 
-def waiting(place: Place, before: str) -> Place:
-    """The same with a hub that waits for the file `go on` before a line of its code."""
-    return place.stopping("imports.py", before, f"os.path.exists({str(place.path('go on'))!r})")
-
-
 @pytest.mark.parametrize("before", (DIGESTING, SYNCING))
 def test_nobody_else_waits(place: Place, before: str) -> None:
     """An import isn't answered before its line is on the disk, nor before the digest is computed
-    that is in it, and others are answered meanwhile."""
-    store = place.make_store()
-    with Hub(waiting(place, before), store, asks=True) as hub:
-        client, other, watching = hub.client(), hub.asker(), hub.asker()
+    that is in it, and others are answered meanwhile; but a copy waits, and has both."""
+    store, copy, go_on = place.make_store(), place.path("copy"), place.path("go on")
+    waiting = place.stopping("imports.py", before, f"os.path.exists({str(go_on)!r})")
+    lines = [line_of(1, RELEASES / "r1", 6)]
+    with Hub(waiting, store, asks=True) as hub:
+        client, owner, other, watching = hub.client(), hub.client(), hub.asker(), hub.asker()
         assert watching.ask("WATCH") == ["OK 0"]
         client.send(b"IMPORT r1\n")
         until("the import", lambda: other.ask("STATUS") == ["OK 1 6 1 -"])
+        owner.send(f"BACKUP {copy}\n".encode())
         for _ in range(100):
             assert other.ask("GET C 138875005 20210131")[-1] == "END 1"
             assert other.ask("IMPORTS") == ["END 0"]
-        assert not (client.has_reply(0.2) or watching.has_reply())
-        place.path("go on").touch()
-        assert client.read() == ["OK 1 6 0"]
+        assert not (client.has_reply(0.2) or watching.has_reply() or owner.has_reply(0.5))
+        go_on.touch()
+        assert (client.read(), owner.read()) == (["OK 1 6 0"], ["OK 1 6 1"])
         assert watching.read() == ["OK 1"]
-        assert rows(other) == listed(store) == [line_of(1, RELEASES / "r1", 6)]
+        assert rows(other) == listed(copy) == listed(store) == lines
+
+
+def syncs_before(reply: str, trace: str) -> int:
+    """How often files are synced between the write of a line of the list and a reply."""
+    opened = trace[trace.index('.imports", O_RDWR') :]
+    answered = re.search(rf'(sendto|write)\([0-9]+, "{reply}\\n", 9', opened)
+    assert answered is not None
+    return opened[opened.index("\\tuser ") : answered.start()].count("fsync(")
 
 
 @pytest.mark.skipif(not has_strace(), reason="it takes strace")
-def test_syncs(place: Place) -> None:
-    """Before an import is answered its line is synced, and the folder of a new list too."""
-    trace, store = place.path("trace"), place.make_store()
-    calls = ["-s", "400", "-e", "trace=openat,write,sendto,fsync,exit_group"]
-    with Hub(place, store, before=[*TRACE, "-o", str(trace), *calls]) as hub:
-        for release in ("r1", "r2"):
-            hub.client().ask(f"IMPORT {release}")
-    until("the trace has its end", lambda: b"exit_group" in trace.read_bytes()[-200:])
-    text = trace.read_text("utf-8", "backslashreplace")
-    for reply, syncs in (("OK 1 6 0", 2), ("OK 2 4 0", 1)):
-        opened = text.index('.imports", O_RDWR|O_CREAT')
-        answered = re.search(rf'(sendto|write)\([0-9]+, "{reply}\\n", 9', text[opened:])
-        assert answered is not None
-        written = text[opened : opened + answered.start()]
-        lines = written[written.index("\\tuser ") :]
-        assert lines.count("fsync(") == syncs, reply
-        text = text[opened + answered.end() :]
-
-
-def test_copies_wait(place: Place) -> None:
-    """A copy that is wanted while an import waits for its line has both."""
-    store, copy = place.make_store(), place.path("copy")
-    with Hub(waiting(place, DIGESTING), store) as hub:
-        client, owner = hub.client(), hub.client()
-        client.send(b"IMPORT r1\n")
-        until("the import", lambda: hub.client().ask("STATUS") == ["OK 1 6 1 -"])
-        owner.send(f"BACKUP {copy}\n".encode())
-        assert not owner.has_reply(0.5)
-        place.path("go on").touch()
-        assert (client.read(), owner.read()) == (["OK 1 6 0"], ["OK 1 6 1"])
-    assert listed(copy) == listed(store) == [line_of(1, RELEASES / "r1", 6)]
+@pytest.mark.parametrize("is_hub", (True, False))
+def test_syncs(place: Place, is_hub: bool) -> None:
+    """Before an import is answered its line is synced, and the folder of a new list too, by the hub
+    and by the program itself."""
+    store = place.make_store()
+    for release, reply, syncs in (("r1", "OK 1 6 0", 2), ("r2", "OK 2 4 0", 1)):
+        path = place.path(release)
+        tracing = [*TRACE, "-o", str(path), *TRACED_CALLS]
+        if is_hub:
+            with Hub(place, store, before=tracing) as hub:
+                hub.owner.ask(f"IMPORT {release}")
+        else:
+            words = map(str, (place.program, "import", "--store", store, RELEASES / release))
+            subprocess.run([*tracing, *words], capture_output=True, check=True)
+        until("the trace has its end", lambda: b"exit_group" in path.read_bytes()[-200:])
+        assert syncs_before(reply, path.read_text("utf-8", "backslashreplace")) == syncs
 
 
 def test_end_while_a_digest_is_computed(place: Place) -> None:
@@ -209,15 +225,11 @@ def test_kills(place: Place) -> None:
     drawn, lacking = random.Random(SEED), set[int]()
     for _ in range(KILLS):
         with Hub(place, store, releases=place.releases) as hub:
-            found = [number for number, row in enumerate(rows(hub.client()), 1)
-                     if row.endswith(NOTHING)]
-            imports = len(rows(hub.client()))
-            assert set(found) - lacking <= {imports}
-            lacking = set(found)
-            told_of = [f"it has no line for {len(found)} of {imports} imports, the first of which "
-                       f"is {found[0]}"] if found else []
-            assert [text for text in told(hub) if "has no end" not in text] == told_of
-            answered = import_until_killed(hub, releases, drawn.uniform(0, KILL_SECONDS))
+            lines, before = rows(hub.client()), lacking
+            lacking = {number for number, line in enumerate(lines, 1) if line.endswith(NOTHING)}
+            assert lacking - before <= {len(lines)}
+            assert [text for text in told(hub) if "has no end" not in text] == lacks(lines)
+            answered = import_until_killed(hub, releases, drawn)
         numbers = {int(line.partition("\t")[0]) for line in listed_whole(store)}
         assert answered <= numbers
     assert len(listed_whole(store)) >= KILLS / 2
@@ -229,16 +241,18 @@ def listed_whole(store: Path) -> list[str]:
     return list_of(store).read_text("utf-8").split("\n")[1:-1]
 
 
-def import_until_killed(hub: Hub, releases: list[Path], seconds: float) -> set[int]:
+def import_until_killed(hub: Hub, releases: list[Path], drawn: random.Random) -> set[int]:
     """Imports until the hub is killed, and answers which imports were answered."""
     hub.owner.send("".join(f"IMPORT {one.name}\n" for one in releases).encode())
-    time.sleep(seconds)
+    answers = [hub.owner.line() for _ in range(drawn.randint(0, KILL_IMPORTS))]
+    time.sleep(drawn.uniform(0, KILL_SECONDS))
     for number in hub.programs():
         with contextlib.suppress(ProcessLookupError):  # A check may have ended meanwhile.
             os.kill(number, 9)
     hub.process.kill()
     hub.process.wait()
-    return {int(line.split()[1]) for line in iter(hub.owner.line, b"") if line.startswith(b"OK ")}
+    answers += iter(hub.owner.line, b"")
+    return {int(line.split()[1]) for line in answers if line.startswith(b"OK ")}
 
 
 def take_back(place: Place, store: Path, imports: int) -> None:
@@ -257,43 +271,32 @@ def test_two_take_backs(place: Place) -> None:
     assert "it has lines of 2 imports that the store doesn't have" in beyond.faults
     taken = "it has lines for imports %d to %d, which the store doesn't have: they don't count"
     four = night_lines([*made[:3], made[5]])
-    with Hub(place, store, releases=place.releases) as hub:
-        assert told(hub) == [taken % (4, 5)]
-        assert rows(hub.owner) == four[:3]
-        assert hub.owner.ask("IMPORT n6") == ["OK 4 1 0"]
-        assert rows(hub.owner) == four
+    begins(place, store, [taken % (4, 5)], four, made[5])
     # One that an older program made, which kept no list.
     kept = list_of(store).read_bytes()
     place.import_one(store, made[6])
     list_of(store).write_bytes(kept)
-    with Hub(place, store, releases=place.releases) as hub:
-        assert told(hub) == ["it has no line for 1 of 5 imports, the first of which is 5"]
-        assert rows(hub.owner) == [*four, "5" + NOTHING]
-        assert hub.owner.ask("IMPORT n8") == ["OK 6 1 0"]
+    begins(place, store, [], [*four, "5" + NOTHING, line_of(6, made[7], 1)], made[7])
     take_back(place, store, 2)
     last = night_lines([*made[:2], made[8]])
-    with Hub(place, store, releases=place.releases) as hub:
-        assert told(hub) == [taken % (3, 6)]
-        assert hub.owner.ask("IMPORT n9") == ["OK 3 1 0"]
-        assert rows(hub.owner) == last
+    begins(place, store, [taken % (3, 6)], last, made[8])
     begins(place, store, [], last)
     assert [line for line in listed(store) if line.startswith("back")] == ["back\t3", "back\t2"]
 
 
 def test_take_back_that_was_none(place: Place) -> None:
     """Where an older store was served by mistake, its line `back` can be deleted again."""
-    store = place.make_store()
+    store, whole = place.make_store(), place.path("whole")
     lines = imported(place, store, place.write_nights(3))
     before = list_of(store).read_bytes()
-    store.rename(place.path("whole"))
-    place.copy(place.path("whole"), "store", 2)
+    store.rename(whole)
+    place.copy(whole, "store", 2)
     with Hub(place, store) as hub:
         assert len(rows(hub.client())) == 2
-    place.path("whole").replace(store)
+    whole.replace(store)
     after = list_of(store).read_bytes()
     assert after.startswith(before + b"back\t2\t")
-    with Hub(place, store) as hub:
-        assert told(hub) == ["it has no line for 1 of 3 imports, the first of which is 3"]
+    begins(place, store, [], [*lines[:2], "3" + NOTHING])
     list_of(store).write_bytes(after[: after.rindex(b"back")])
     begins(place, store, [], lines)
 
@@ -357,99 +360,120 @@ def test_list_of_another_store(place: Place) -> None:
     shutil.copy(list_of(other), list_of(store))
     begins(place, store, [
         "2 of its lines have another number of new rows than the store, the first of them for "
-        "import 1: they don't count",
-        "it has no line for 2 of 3 imports, the first of which is 1"],
+        "import 1: they don't count"],
         ["1" + NOTHING, "2" + NOTHING, line_of(3, RELEASES / "r3", 2, 1)])
 
 
 # A line of a list that counts for nothing.
-NO_IMPORTS = "back\t0\t2020-01-01T00:00:00Z\n"
+NO_IMPORTS = "back\t9\t2020-01-01T00:00:00Z\n"
 
 
-def test_limit_of_a_file(place: Place) -> None:
-    """Where the list may not grow, imports go on, and STATUS says that their lines are missing."""
-    store, lines = place.make_store(), night_lines(place.write_nights(4))
-    # (The log of the hub is a file, too, which may grow.)
-    list_of(store).write_text(FIRST_LINE + NO_IMPORTS * 1_000, encoding="utf-8")
-    with Hub(place, store, releases=place.releases) as hub:
-        hub.owner.ask("IMPORT n1")
-        before = list_of(store).read_bytes()
-        # (Some of a line can be written.)
-        limit_file(hub, len(before) + 20)
-        for number in (2, 3):
-            assert hub.owner.ask(f"IMPORT n{number}") == [f"OK {number} 1 0"]
-            assert hub.owner.ask("STATUS") == [f"OK {number} {number} {number} - Unlisted"]
-            assert list_of(store).read_bytes() == before
-        assert told(hub) == [f"{number} lines aren't written: File too large" for number in (1, 2)]
-        assert "ROW sctd_unlisted 2" in hub.owner.ask("METRICS")
-        assert rows(hub.owner) == lines[:3]
-        limit_file(hub, resource.RLIM_INFINITY)
-        assert hub.owner.ask("IMPORT n4") == ["OK 4 1 0"]
-        assert hub.owner.ask("STATUS") == ["OK 4 4 4 -"]
-        assert rows(hub.owner) == lines
-        assert [line for line in listed(store) if "back" not in line] == lines
+def mount_again(folder: Path, how: str) -> None:
+    subprocess.run(["mount", "-o", f"remount,{how}", str(folder)], check=True)
 
 
-def limit_file(hub: Hub, most: int) -> None:
-    resource.prlimit(hub.process.pid, resource.RLIMIT_FSIZE, (most, resource.RLIM_INFINITY))
+@contextlib.contextmanager
+def limited(store: Path, process: int) -> Iterator[None]:
+    """No file of a process may become longer than a store's list and some of a line."""
+    most = list_of(store).stat().st_size + 20
+    before = resource.prlimit(process, resource.RLIMIT_FSIZE, (most, resource.RLIM_INFINITY))
+    try:
+        yield
+    finally:  # It may be the process of all trials.
+        resource.prlimit(process, resource.RLIMIT_FSIZE, before)
 
 
-def on_small_disk(place: Place, small_disk: Path) -> Path:
-    """A link to a store: so its list is on the small disk, and the store itself on another one."""
-    link = small_disk / "store"
+@contextlib.contextmanager
+def full(store: Path, _process: int) -> Iterator[None]:
+    filler = store.with_name("filler")
+    with open(filler, "wb", buffering=0) as disk, contextlib.suppress(OSError):
+        while True:
+            disk.write(b"x" * BLOCK)
+    yield
+    filler.unlink()
+
+
+@contextlib.contextmanager
+def only_read(store: Path, _process: int) -> Iterator[None]:
+    mount_again(store.parent, "ro")
+    yield
+    mount_again(store.parent, "rw")
+
+
+class Unwritable(NamedTuple):
+    """Why a list can't be written: what does that to a store's list for a process; what the hub
+    says, and the program; and whether it takes a disk of its own."""
+
+    begin: Callable[[Path, int], contextlib.AbstractContextManager[None]]
+    hub_says: str
+    program_says: str
+    has_disk: bool = True
+
+
+ONLY_READ = Unwritable(only_read, "Read-only file system", "Read-only file system (os error 30)")
+UNWRITABLE = (
+    Unwritable(limited, "File too large", "file too large", has_disk=False),
+    Unwritable(full, "No space left on device", "No space left on device (os error 28)"), ONLY_READ)
+
+
+@pytest.fixture(params=UNWRITABLE, ids=("limited", "full", "only_read"))
+def unwritable(request: pytest.FixtureRequest) -> Unwritable:
+    if request.param.has_disk:
+        request.getfixturevalue("small_disk")
+    found: Unwritable = request.param
+    return found
+
+
+@pytest.fixture
+def linked(place: Place, unwritable: Unwritable) -> Path:
+    """A link to a store with an import, whose list has no room for another line in its blocks: so
+    the list is on the small disk where there is one, and the store itself on another one."""
+    link = place.path("small" if unwritable.has_disk else "") / "link"
     link.symlink_to(place.make_store("own"))
+    imported(place, link, place.write_nights(1))
+    with open(list_of(link), "a", encoding="utf-8") as file:
+        file.write(NO_IMPORTS * ((8 * BLOCK - list_of(link).stat().st_size) // len(NO_IMPORTS)))
     return link
 
 
-def test_full_disk(place: Place, small_disk: Path) -> None:
-    """The same on a disk that is full."""
-    made, link = place.write_nights(4), on_small_disk(place, small_disk)
-    filler = small_disk / "filler"
-
-    with Hub(place, link, releases=place.releases) as hub:
-        hub.owner.ask("IMPORT n1")
-        # The list has a block of its own: what is longer than that needs another one.
-        with open(list_of(link), "ab") as file:
-            file.write(NO_IMPORTS.replace("0", "9", 1).encode() * 140)
-        with open(filler, "wb", buffering=0) as disk, contextlib.suppress(OSError):
-            while True:
-                disk.write(b"x" * BLOCK)
-        assert hub.owner.ask("IMPORT n2") == ["OK 2 1 0"]
-        assert hub.owner.ask("STATUS") == ["OK 2 2 2 - Unlisted"]
-        assert told(hub)[-1] == "1 lines aren't written: No space left on device"
-        filler.unlink()
-        assert hub.owner.ask("IMPORT n3") == ["OK 3 1 0"]
-        assert hub.owner.ask("STATUS") == ["OK 3 3 3 -"]
-    with Hub(place, link) as hub:
-        assert rows(hub.client()) == night_lines(made[:3])
+def test_unwritten_lines(place: Place, linked: Path, unwritable: Unwritable) -> None:
+    """Where the list can't be written, imports go on, and STATUS says that their lines are missing,
+    until they can be."""
+    lines, before = night_lines(place.write_nights(4)), list_of(linked).read_bytes()
+    with Hub(place, linked, releases=place.releases) as hub:
+        with unwritable.begin(linked, hub.process.pid):
+            for number in (2, 3):
+                assert hub.owner.ask(f"IMPORT n{number}") == [f"OK {number} 1 0"]
+                assert hub.owner.ask("STATUS") == [f"OK {number} {number} {number} - Unlisted"]
+                assert list_of(linked).read_bytes() == before
+            assert told(hub) == [
+                f"{number} lines aren't written: {unwritable.hub_says}" for number in (1, 2)]
+            assert "ROW sctd_unlisted 2" in hub.owner.ask("METRICS")
+            assert rows(hub.owner) == lines[:3]
+        assert hub.owner.ask("IMPORT n4") == ["OK 4 1 0"]
+        assert hub.owner.ask("STATUS") == ["OK 4 4 4 -"]
+        assert rows(hub.owner) == lines
+    assert [line for line in listed(linked) if "back" not in line] == lines
+    begins(place, linked, [], lines)
 
 
-def test_disk_without_a_right_to_write(place: Place, small_disk: Path) -> None:
-    """The same where the list's disk may only be read."""
-    made, link = place.write_nights(3), on_small_disk(place, small_disk)
-
-    def mount_again(how: str) -> None:
-        subprocess.run(["mount", "-o", f"remount,{how}", str(small_disk)], check=True)
-
-    with Hub(place, link, releases=place.releases) as hub:
-        hub.owner.ask("IMPORT n1")
-        mount_again("ro")
-        assert hub.owner.ask("IMPORT n2") == ["OK 2 1 0"]
-        assert hub.owner.ask("STATUS") == ["OK 2 2 2 - Unlisted"]
-        assert told(hub) == ["1 lines aren't written: Read-only file system"]
-        mount_again("rw")
-        # As the hub ends, what is missing is written.
+@pytest.mark.parametrize("unwritable", (ONLY_READ,), indirect=True, ids=("only_read",))
+def test_unwritten_lines_at_the_end(place: Place, linked: Path, unwritable: Unwritable) -> None:
+    """What is missing is written as a hub ends, or it is told, also by the next start."""
+    lines = night_lines(place.write_nights(3))
+    said = f"1 lines aren't written: {unwritable.hub_says}"
+    with Hub(place, linked, releases=place.releases) as hub:
+        with unwritable.begin(linked, hub.process.pid):
+            assert hub.owner.ask("IMPORT n2") == ["OK 2 1 0"]
+            assert told(hub) == [said]
         assert hub.stop() == 0
-    assert listed(link) == night_lines(made[:2])
-    mount_again("ro")
-    with Hub(place, link, releases=place.releases) as hub:
+    assert [line for line in listed(linked) if "back" not in line] == lines[:2]
+    with unwritable.begin(linked, 0), Hub(place, linked, releases=place.releases) as hub:
         assert told(hub) == []
-        assert hub.client().ask("IMPORT n3") == ["OK 3 1 0"]
+        assert hub.owner.ask("IMPORT n3") == ["OK 3 1 0"]
         hub.stop()
-        assert told(hub) == ["1 lines aren't written: Read-only file system"] * 2
-    mount_again("rw")
-    with Hub(place, link) as hub:
-        assert told(hub) == ["it has no line for 1 of 3 imports, the first of which is 3"]
+        assert told(hub) == [said] * 2
+    begins(place, linked, [], [*lines[:2], "3" + NOTHING])
 
 
 def test_copies_have_it(place: Place) -> None:

@@ -1,13 +1,10 @@
 """Tries the list of imports that the program itself keeps beside the store: what `import` adds to
 it and `copy` makes of it, that a hub takes it up, and that no fault of it changes either."""
 
-import contextlib
 import itertools
 import os
-import resource
 import shutil
 import signal
-import subprocess
 from collections import Counter
 from collections.abc import Callable, Iterator, Sequence
 from functools import partial
@@ -15,20 +12,17 @@ from pathlib import Path
 
 import pytest
 
-from harness import BLOCK, RELEASES, Hub, Place, concept, has_strace, mode, write_release
+from harness import RELEASES, Hub, Place, concept, mode, write_release
 from moments import Library, Moment
 from test_files import library as library
-from test_imports import FIRST_LINE, KILLS, NO_DIGEST, NO_IMPORTS, NOTHING, begins, instead
-from test_imports import line_of, list_of, listed, night_lines, on_small_disk
-from test_imports import with_times, without_hub
+from test_imports import FIRST_LINE, KILLS, NO_DIGEST, NOTHING, UNWRITABLE, Unwritable, appended
+from test_imports import begins, line_of, linked as linked, list_of, listed, night_lines
+from test_imports import odd_release, unwritable as unwritable, with_times, without_hub
 
 UNLISTED = "sctd: warning: {}.imports: the import isn't listed: {}\n"
 NOT_COPIED = "sctd: warning: {}.imports isn't copied to {}.imports: {}\n"
 NO_FILE, IS_FOLDER = "not a regular file", "Is a directory (os error 21)"
-NO_ROOM, ONLY_READ = "No space left on device (os error 28)", "Read-only file system (os error 30)"
 NOWHERE = "No such file or directory (os error 2)"
-LACKING = "it has no line for {} of {} imports, the first of which is {}"
-LACKS = LACKING.format(1, 2, 1)
 NO_LIST = "it is no list of imports that this program knows"
 # Before which calls on which files an import is killed, and how.
 KILLED_BEFORE = [(call, path) for path in (".txt", "store", "store.imports")
@@ -51,26 +45,18 @@ def import_nights(place: Place, store: Path, made: Sequence[Path], first: int = 
 
 
 def test_the_list(place: Place) -> None:
-    """Confirmed imports have a line, and nothing else; others compute the same digest, and a hub
-    finds nothing wrong with the list."""
-    store = place.make_store(layout=3)
-    odd = write_release(place.path("odd"), {"C": [concept(1)]})
-    for name in ("Refset/b", "Refset/b-c", "Refset/b/deeper", "Terminology/d", "Terminology/d.e"):
-        (odd / name).mkdir(parents=True)
-    for name in ("Refset/b/1 2\n\\.txt", "Refset/b-c/1.txt", "Refset/b/deeper/x", "Refset/y",
-                 "Terminology/d/z", "Terminology/d.e/\u00fc", "outside"):
-        (odd / name).write_text(name, encoding="utf-8")
-    (odd / "Terminology/nowhere").symlink_to("no file")
-    (odd / "Terminology/elsewhere.txt").symlink_to(odd / "outside")
-    os.mkfifo(odd / "Refset/b-c/pipe")
-    (odd / "Terminology/long").write_bytes(os.urandom(200_000))
+    """Confirmed imports have a line, and no check, refused import or failed copy; others compute
+    the same digest, and a hub finds nothing wrong with the list."""
+    store, odd = place.make_store(layout=3), odd_release(place.path("odd"))
+    faulty = write_release(place.path("faulty"), {"C": [concept(1).replace("20250131", "x")]})
     lines = [line_of(1, RELEASES / "r1", 6), line_of(2, RELEASES / "r2", 4),
              line_of(3, RELEASES / "r1", 0, 6), line_of(4, odd, 1)]
     for number, (name, reply) in enumerate((("r1", "6 0"), ("r2", "4 0"), ("r1", "0 6")), 1):
-        imports(place, store, RELEASES / name, f"OK {number} {reply}")
         place.run("import", "--check", "--store", store, RELEASES / "r3")
-        place.run("import", "--store", store, RELEASES / "r9")
-        place.run("import", "--store", store, place.folder)
+        for release in (faulty, RELEASES / "r9", place.folder):
+            place.run("import", "--store", store, release)
+        assert list_of(store).exists() == (number > 1)
+        imports(place, store, RELEASES / name, f"OK {number} {reply}")
     ran = place.run("import", "--quiet", "--store", store, "--releases", odd.parent, odd.name,
                     around=ALONE)
     assert ran[:2] == (0, "OK 4 1 0\n")
@@ -78,6 +64,8 @@ def test_the_list(place: Place) -> None:
     assert listed(store) == lines
     assert mode(list_of(store)) == 0o600
     assert without_hub(place, store).output.count("ROW ") == 4
+    place.refuses(["copy", "--store", store, "--to", "copy", "--imports", "5"], "ERR 44 PinRange",
+                  "the store has fewer imports\n")
     begins(place, store, [], lines)
 
 
@@ -101,26 +89,6 @@ def test_other_user(place: Place) -> None:
         os.chown(path, 1234, 1234)
     imports(place, store, RELEASES / "r1", "OK 1 6 0", before=partial(os.setuid, 1234))
     assert listed(store)[0].endswith("\tuser 1234")
-
-
-@pytest.mark.skipif(not has_strace(), reason="it takes strace")
-def test_syncs(place: Place) -> None:
-    """Before an import is answered its line is synced, and the folder of a new list too."""
-    store = place.make_store()
-    for release, syncs in (("r1", 2), ("r2", 1)):
-        ran = subprocess.run(
-            ["strace", "-f", "-s", "400", "-e", "trace=openat,pwrite64,write,fsync",
-             place.program, "import", "--quiet", "--store", store, RELEASES / release],
-            capture_output=True, text=True, check=True)
-        lines = ran.stderr[ran.stderr.index('.imports", O_RDWR') :]
-        written = lines[lines.index("\\tuser ") : lines.index('write(1, "OK ')]
-        assert written.count("fsync(") == syncs
-
-
-def lacks(lines: Sequence[str]) -> list[str]:
-    """What is told of a list where some of these imports have no line."""
-    lacking = [number for number, line in enumerate(lines, 1) if line.endswith(NOTHING)]
-    return [LACKING.format(len(lacking), len(lines), lacking[0])] if lacking else []
 
 
 def listed_so_far(store: Path) -> list[str]:
@@ -156,7 +124,7 @@ def test_kills(place: Place, library: Library) -> None:
             assert ran == (0, f"OK {number} 1 0\n", "") and added
         if is_done:
             lines += added or [f"{number}{NOTHING}"]
-            begins(place, store, lacks(lines), lines)
+            begins(place, store, [], lines)
     assert ends.total() >= KILLS and set(ends) == {(False, False), (True, False), (True, True)}
 
 
@@ -248,7 +216,8 @@ NO_PLACES: dict[str, tuple[Callable[[Path], object], str]] = {
 
 @pytest.mark.parametrize("make, why", NO_PLACES.values(), ids=NO_PLACES.keys())
 def test_what_is_no_list(place: Place, make: Callable[[Path], object], why: str) -> None:
-    """What stands in a list's place stays as it is, and nothing else changes."""
+    """What stands in a list's place stays as it is, and nothing else changes; once it is gone there
+    is a list again."""
     store = place.make_store()
     make(list_of(store))
     before = place.contents()
@@ -270,20 +239,21 @@ def test_what_is_no_list(place: Place, make: Callable[[Path], object], why: str)
         before.pop(name, None)
         after.pop(name)
     assert after == before
-
-
-def cut(path: Path) -> None:
-    with open(path, "ab") as file:
-        file.write(b"2\t2020-10-01T09:00")
+    if list_of(store).is_dir():
+        list_of(store).rmdir()
+    else:
+        list_of(store).unlink()
+    imports(place, store, RELEASES / "r2", "OK 2 4 0")
+    assert listed(store) == [line_of(2, RELEASES / "r2", 4)]
 
 
 # What another program makes of a list, and what is told of it by a hub.
 CHANGES: dict[str, tuple[Callable[[Path], object], list[str], bool]] = {
-    "removed": (Path.unlink, [LACKS], False),
-    "cut": (cut, [], True),
-    "emptied": (bad(b""), [LACKS], False),
-    "cut in the first line": (bad(FIRST_LINE.encode()[:-1]), [LACKS], False),
-    "with garbage": (lambda path: path.write_bytes(path.read_bytes() + b"\xff\n\n\t\nback\nx\t\n"),
+    "removed": (Path.unlink, [], False),
+    "cut": (appended(b"2\t2020-10-01T09:00"), [], True),
+    "emptied": (bad(b""), [], False),
+    "cut in the first line": (bad(FIRST_LINE.encode()[:-1]), [], False),
+    "with garbage": (appended(b"\xff\n\n\t\nback\nx\t\n"),
                      ["5 of its lines can't be read, the first of which is line 3"], True),
     "with later lines": (lambda path: path.write_bytes(
         path.read_bytes() + path.read_bytes()[len(FIRST_LINE) :].replace(b"1\t", b"7\t", 1)),
@@ -302,17 +272,6 @@ def test_other_programs(place: Place, change: Callable[[Path], object], tells: l
     begins(place, store, tells, [first if has_first else "1" + NOTHING, second])
 
 
-def test_instead(place: Place) -> None:
-    """A list that was replaced by a folder comes back with the next import after that is gone."""
-    store, made = place.make_store(), place.write_nights(3)
-    import_nights(place, store, made[:1])
-    instead(Path.mkdir)(list_of(store))
-    imports(place, store, made[1], "OK 2 1 0", UNLISTED.format(store, IS_FOLDER))
-    list_of(store).rmdir()
-    import_nights(place, store, made[2:], 3)
-    assert listed(store) == [line_of(3, made[2], 1)]
-
-
 def test_no_digest(place: Place) -> None:
     """A release whose files can't all be named has a line without a digest."""
     store, release = place.make_store(), write_release(place.path("odd"), {"C": [concept(1)]})
@@ -324,60 +283,24 @@ def test_no_digest(place: Place) -> None:
     assert listed(store) == [line_of(1, release, 1, digest=NO_DIGEST)]
 
 
-def test_limit_of_a_file(place: Place) -> None:
-    """Where no file may become so long, the list stays as it is, and the import is done."""
-    store, made = place.make_store(), place.write_nights(2)
-    import_nights(place, store, made[:1])
-    with open(list_of(store), "a", encoding="utf-8") as file:
-        file.write(NO_IMPORTS.replace("0", "9", 1) * 2_000)
-    before = list_of(store).read_bytes()
-    most = len(before) + 20
-    imports(place, store, made[1], "OK 2 1 0", UNLISTED.format(store, "file too large"),
-            partial(resource.setrlimit, resource.RLIMIT_FSIZE, (most, most)))
-    assert list_of(store).read_bytes() == before
-    ran = place.run("copy", "--store", store, "--to", "copy", "--imports", "1",
-                    before=partial(resource.setrlimit, resource.RLIMIT_FSIZE, (most, most)))
-    assert ran == (0, "OK\n", NOT_COPIED.format(store, "copy", "file too large"))
-    assert not place.path("copy.imports").exists()
-
-
-def fill(path: Path) -> None:
-    with open(path, "wb", buffering=0) as disk, contextlib.suppress(OSError):
-        while True:
-            disk.write(b"x" * BLOCK)
-
-
-def test_full_disk(place: Place, small_disk: Path) -> None:
-    """The same on a disk that is full, and on one that may only be read."""
-    made, link = place.write_nights(4), on_small_disk(place, small_disk)
-    filler = small_disk / "filler"
-    import_nights(place, link, made[:1])
-    # The list has a block of its own: what is longer than that needs another one.
-    with open(list_of(link), "ab") as file:
-        file.write(NO_IMPORTS.replace("0", "9", 1).encode() * 140)
-    before = list_of(link).read_bytes()
-    fill(filler)
-    imports(place, link, made[1], "OK 2 1 0", UNLISTED.format(link, NO_ROOM))
-    assert list_of(link).read_bytes() == before
-    subprocess.run(["mount", "-o", "remount,ro", str(small_disk)], check=True)
-    imports(place, link, made[2], "OK 3 1 0", UNLISTED.format(link, ONLY_READ))
-    subprocess.run(["mount", "-o", "remount,rw", str(small_disk)], check=True)
-    filler.unlink()
-    import_nights(place, link, made[3:], 4)
+def test_unwritten_lines(place: Place, linked: Path, unwritable: Unwritable) -> None:
+    """Where the list can't be written it stays as it is, and the import is done."""
+    made, before = place.write_nights(4), list_of(linked).read_bytes()
+    with unwritable.begin(linked, os.getpid()):
+        for number in (2, 3):
+            imports(place, linked, made[number - 1], f"OK {number} 1 0",
+                    UNLISTED.format(linked, unwritable.program_says))
+            assert list_of(linked).read_bytes() == before
+    import_nights(place, linked, made[3:], 4)
     first, *_, last = night_lines(made)
     lines = [first, "2" + NOTHING, "3" + NOTHING, last]
-    begins(place, link, lacks(lines), lines)
+    begins(place, linked, [], lines)
 
 
-def test_nothing_is_listed(place: Place) -> None:
-    """A check, a refused import and a copy that fails leave no list."""
-    store = place.make_store()
-    fault = write_release(place.path("faulty"), {"C": [concept(1).replace("20250131", "x")]})
-    place.run("import", "--check", "--store", store, RELEASES / "r1")
-    for release in (fault, place.path("absent")):
-        place.run("import", "--store", store, release)
-    assert not list_of(store).exists()
-    place.import_one(store, RELEASES / "r1")
-    place.refuses(["copy", "--store", store, "--to", "copy", "--imports", "2"], "ERR 44 PinRange",
-                  "the store has fewer imports\n")
+@pytest.mark.parametrize("unwritable", UNWRITABLE[:1], indirect=True, ids=("limited",))
+def test_copy_without_a_list(place: Place, linked: Path, unwritable: Unwritable) -> None:
+    """Where the list can't be copied the store is."""
+    with unwritable.begin(linked, os.getpid()):
+        ran = place.run("copy", "--store", linked, "--to", "copy", "--imports", "1")
+    assert ran == (0, "OK\n", NOT_COPIED.format(linked, "copy", unwritable.program_says))
     assert not place.path("copy.imports").exists()

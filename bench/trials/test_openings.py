@@ -19,6 +19,8 @@ make-store = true
 [gateway]
 edition = "900000000000207008"
 """
+# How much of a text strace writes down.
+LONGEST_TEXT = "4096"
 # What is wrong with settings: their text, and what the hub says of it.
 WRONG_SETTINGS = {
     "a key that no option has": ("[hub]\nmerge-abvoe = 7\n", "arguments: --merge-abvoe=7"),
@@ -68,6 +70,16 @@ def test_first_start(place: Place, home: Path) -> None:
     assert ended(place, store)[:2] == (1, "ERR 2 DiskFault\n")
 
 
+def test_refused_stores(place: Place, store: Path) -> None:
+    """A store in use is refused, and a file that is none."""
+    with Hub(place, store) as hub:
+        assert ended(place.below("other"), store)[:2] == (1, "ERR 2 DiskFault\n")
+        assert hub.stop() == 0
+        assert not hub.socket.exists()
+    place.path("none").write_text("no store", encoding="utf-8")
+    assert ended(place, place.path("none"))[:2] == (1, "ERR 7 NotAStore\n")
+
+
 def test_odd_first_starts(place: Place, home: Path, two_imports: Path) -> None:
     """A store that lies there already gets the note; a mistyped name makes none beside it; and
     where none can be made, the program says why."""
@@ -107,7 +119,8 @@ def test_wrong_settings(place: Place, home: Path, text: str | None, said: str) -
 def test_dropped_pages(place: Place, store: Path) -> None:
     """What memory has of the store's file is synced and dropped before the program is started."""
     trace = place.path("trace")
-    with Hub(place, store, before=[*TRACE, "-y", "-o", str(trace), "-e", "signal=none"]) as hub:
+    tracing = [*TRACE, "-y", "-s", LONGEST_TEXT, "-o", str(trace), "-e", "signal=none"]
+    with Hub(place, store, before=tracing) as hub:
         assert hub.first_line == "OK ready"
     lines = trace.read_text("utf-8", "backslashreplace").split("\n")
     wanted = (("fdatasync(", f"<{store}>) = 0"),

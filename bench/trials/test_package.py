@@ -30,27 +30,9 @@ from needs import MODULES, python_with  # noqa: E402
 
 SECONDS = 320
 TOOLS = ("dpkg-deb", "strip")
-# What a package has to have, beside the files of the service.
-FILES = """
-./etc/sctd/sctd.conf ./lib/systemd/system/sctd.service ./lib/systemd/system/sctd@.service
-./lib/systemd/system/sctd-gateway.service ./lib/systemd/system/sctd-gateway@.service ./usr/bin/sctd
-./usr/bin/sctd-hub ./usr/bin/sctd-gateway ./usr/lib/sysusers.d/sctd.conf
-./usr/lib/tmpfiles.d/sctd.conf ./usr/libexec/sctd/sctd
-./usr/share/bash-completion/completions/sctd ./usr/share/bash-completion/completions/sctd-hub
-./usr/share/bash-completion/completions/sctd-gateway ./usr/share/zsh/vendor-completions/_sctd
-./usr/share/doc/sctd/README ./usr/share/doc/sctd/GUIDE.md.gz ./usr/share/doc/sctd/START.md.gz
-./usr/share/doc/sctd/ASK.md.gz ./usr/share/doc/sctd/OPERATE.md.gz ./usr/share/doc/sctd/FHIR.md.gz
-./usr/share/doc/sctd/AUDIT.md.gz ./usr/share/doc/sctd/PROMISES.md.gz
-./usr/share/doc/sctd/FORMAT.md.gz ./usr/share/doc/sctd/CHANGELOG.md.gz
-./usr/share/doc/sctd/changelog.gz ./usr/share/doc/sctd/copyright ./usr/share/doc/sctd/examples
-./usr/share/lintian/overrides/sctd
-./usr/share/man/man1/sctd.1.gz ./usr/share/man/man5/sctd.conf.5.gz
-./usr/share/man/man8/sctd-hub.8.gz ./usr/share/man/man8/sctd-gateway.8.gz
-""".split()
-# Folders that are in it as they are in the clone.
+# What a package has to have; and the folders that are in it as they are in the clone.
+FILES = Path(__file__).with_name("package_files.txt").read_text("utf-8").splitlines()[1:]
 FOLDERS = ("service/sctd_service", "examples", "docs/releases", "docs/package")
-MORE = ("service/sctd-hub", "service/sctd-gateway", "service/sctd_service/commit",
-        "examples/nginx.conf", "examples/haproxy.cfg")
 # Options that are no settings.
 NO_SETTINGS = {"help", "config", "version"}
 MOST_LINES_OF_README = 10
@@ -70,10 +52,10 @@ printf '%s\\n' "${COMPREPLY[@]}" | sort
 """
 
 
-def run(*words: str, **around: str) -> tuple[int, str]:
-    """The status of a command, and all that it says."""
+def run(*words: str, place: Path | None = None, **around: str) -> tuple[int, str]:
+    """The status of a command, which may run in a folder, and all that it says."""
     done = subprocess.run(words, stdin=subprocess.DEVNULL, stdout=subprocess.PIPE,
-                          stderr=subprocess.STDOUT, timeout=SECONDS, check=False,
+                          stderr=subprocess.STDOUT, timeout=SECONDS, check=False, cwd=place,
                           env=os.environ | around)
     return done.returncode, done.stdout.decode("utf-8", "backslashreplace")
 
@@ -115,12 +97,10 @@ def test_same_again(made: Made) -> None:
 
 def wanted_files() -> Iterator[str]:
     yield from FILES
-    share = "./" + debian.SHARE
-    yield from ("%s/%s" % (share, name) for name in MORE)
     for folder in FOLDERS:
-        for path in sorted((TOP / folder).rglob("*")):
+        for path in (TOP / folder).rglob("*"):
             if path.is_file() and "__pycache__" not in path.parts and path.name[0] != ".":
-                yield "%s/%s" % (share, path.relative_to(TOP))
+                yield "./%s/%s" % (debian.SHARE, path.relative_to(TOP))
 
 
 def test_contents(made: Made) -> None:
@@ -205,9 +185,8 @@ def test_completions(made: Made) -> None:
     (place / "a-file").touch()
     script = str(made.path("usr/share/bash-completion/completions/sctd"))
     for line, wanted in COMPLETED:
-        done = subprocess.run(["bash", "-c", COMPLETING, "bash", script, line], cwd=place,
-                              capture_output=True, text=True, timeout=SECONDS, check=False)
-        assert (done.stdout.split(), done.stderr) == (wanted, ""), line
+        _, told = run("bash", "-c", COMPLETING, "bash", script, line, place=place)
+        assert told.split() == wanted, line
     if shutil.which("zsh") is None:
         pytest.skip("there is no zsh")
     zsh = str(made.path("usr/share/zsh/vendor-completions/_sctd"))
@@ -223,11 +202,9 @@ def test_types(made: Made) -> None:
         pytest.skip("there is no mypy")
     modules = [path.name for path in sorted((TOP / "packaging").glob("*.py"))]
     for files in (modules, ["build"], ["deb"]):
-        done = subprocess.run(
-            ["mypy", "--strict", "--cache-dir=/dev/null", *files], cwd=TOP / "packaging",
-            env=os.environ | {"MYPYPATH": "%s/bench:%s/service" % (TOP, TOP)},
-            capture_output=True, text=True, timeout=SECONDS, check=False)
-        assert (done.returncode, done.stdout.partition(":")[0]) == (0, "Success"), files[0]
+        status, told = run("mypy", "--strict", "--cache-dir=/dev/null", *files,
+                           place=TOP / "packaging", MYPYPATH="%s/bench:%s/service" % (TOP, TOP))
+        assert (status, told.partition(":")[0]) == (0, "Success"), told
 
 
 def test_lintian(made: Made) -> None:

@@ -9,7 +9,7 @@ from pathlib import Path
 
 import pytest
 
-from harness import RELEASES, Place, concept, mode, same, write_release
+from harness import RELEASES, Place, mode, same
 import make_release as rf2
 
 ROWS, SEED = 2_500, 5
@@ -31,41 +31,16 @@ def prepared(place: Place, release: Path, name: str = "prepared") -> str:
     return place.done("prepare", "--quiet", "--to", place.path(name), release)
 
 
-def imported(place: Place, release: Path) -> tuple[Path, str]:
-    """A new store of layout 3 with this release, and the reply without the import's number."""
-    store = place.make_store("imported", layout=3)
-    return store, place.import_one(store, release).replace("OK 1 ", "OK ")
-
-
-def prepared_rows(place: Place, release: Path) -> str:
-    """How many rows are in a store of this release."""
-    return prepared(place, release, "rows").split(" ")[1]
-
-
-def test_same_as_an_import(place: Place, package: Path) -> None:
+@pytest.mark.parametrize("is_whole", (True, False))
+def test_same_as_an_import(place: Place, package: Path, is_whole: bool) -> None:
     """A prepared store has the bytes of a store that was made and filled by two tasks."""
-    for release in (package, RELEASES / "r1"):
-        store, reply = imported(place, release)
-        same("the reply", prepared(place, release), reply)
-        made = place.path("prepared")
-        same("the bytes", made.read_bytes() == store.read_bytes(), True)
-        same("who may read it", mode(made), 0o600)
-        store.unlink()
-        made.unlink()
-
-
-def test_repeated_lines(place: Place) -> None:
-    """A line that is there twice counts as a row once."""
-    release = write_release(place.path("twice"), {"C": [concept(1), concept(2), concept(1)]})
-    same("the reply", prepared(place, release), "OK 2 1")
-    same("the status", place.status(place.path("prepared")), "OK 1 2 1 -")
-
-
-def test_no_rows(place: Place) -> None:
-    """A release without rows makes a store with one import and no segment."""
-    release = write_release(place.path("empty"), {})
-    same("the reply", prepared(place, release), "OK 0 0")
-    same("the status", place.status(place.path("prepared")), "OK 1 0 0 -")
+    release = package if is_whole else RELEASES / "r1"
+    store, made = place.make_store("imported", layout=3), place.path("prepared")
+    # (An import's reply has its number, too.)
+    reply = place.import_one(store, release).replace("OK 1 ", "OK ")
+    same("the reply", prepared(place, release), reply)
+    same("the bytes", made.read_bytes() == store.read_bytes(), True)
+    same("who may read it", mode(made), 0o600)
 
 
 def test_by_name(place: Place) -> None:
@@ -89,24 +64,6 @@ def test_files_that_are_there(place: Place) -> None:
                   "ERR 2 DiskFault", "No such file or directory")
 
 
-def test_refused_releases(place: Place) -> None:
-    """A release that no store would take is refused as an import refuses it, and leaves no file."""
-    fault = concept(1).replace("20250131", "20251331")
-    faulty = write_release(place.path("faulty"), {"C": [concept(2), fault]})
-    contradicting = write_release(place.path("contradicting"),
-                                  {"C": [concept(1), concept(2), concept(1, active=0)]})
-    for release, reply in ((faulty, "ERR 26 Time 1 3"),
-                           (contradicting, "ERR 32 Contradiction 1 4"),
-                           (place.path("absent"), "ERR 45 NoFolder")):
-        store = place.make_store("imported", layout=3)
-        wanted = place.run("import", "--quiet", "--store", store, release)
-        same("what an import answers", wanted[:2], (1, reply + "\n"))
-        store.unlink()
-        found = place.run("prepare", "--quiet", "--to", store, release)
-        same("what is answered and told", found, wanted)
-        same("whether there is a file", store.exists(), False)
-
-
 def test_short_files(place: Place, package: Path) -> None:
     """Where the system lets no file become long enough, nothing is left."""
     place.refuses(["prepare", "--quiet", "--to", "prepared", package], "ERR 2 DiskFault",
@@ -116,8 +73,7 @@ def test_short_files(place: Place, package: Path) -> None:
 
 def test_killed(place: Place, package: Path) -> None:
     """A preparation that is killed leaves no file, no store, or a store with one import or none."""
-    to = place.path("prepared")
-    found = set()
+    to, found = place.path("prepared"), set[str]()
     for number in range(KILLS):
         to.unlink(missing_ok=True)
         with subprocess.Popen([place.program, "prepare", "--quiet", "--to", to, package],
@@ -125,5 +81,5 @@ def test_killed(place: Place, package: Path) -> None:
             time.sleep(number * STEP)
             running.kill()
         found.add(place.run("status", "--store", to).output.rstrip("\n"))
-    assert found <= {"ERR 2 DiskFault", "ERR 7 NotAStore", "OK 0 0 0 -",
-                     f"OK 1 {prepared_rows(place, package)} 1 -"}
+    rows = prepared(place, package, "rows").split(" ")[1]
+    assert found <= {"ERR 2 DiskFault", "ERR 7 NotAStore", "OK 0 0 0 -", f"OK 1 {rows} 1 -"}

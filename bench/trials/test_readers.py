@@ -76,6 +76,14 @@ def test_client(hub: Hub, place: Place, given: bytes, printed: str, status: int)
     assert place.run_script(CLIENT, hub.socket, given=given) == (status, printed, "")
 
 
+def test_client_in_another_locale(hub: Hub, place: Place) -> None:
+    """Where that isn't UTF-8, its lines and replies are the same bytes."""
+    ran = place.run_script(CLIENT, hub.socket, given="TERMS 20200131 10 Straße\n".encode(),
+                           PYTHONIOENCODING="latin-1")
+    reply = "".join(line + "\n" for line in hub.owner.ask("TERMS 20200131 10 STRASSE"))
+    assert ran == (0, reply, "") and "\tStraße\t" in reply
+
+
 def test_client_unread(hub: Hub, place: Place) -> None:
     """And where nobody reads what it prints."""
     unread = Script(place, CLIENT, hub.socket)

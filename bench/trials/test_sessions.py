@@ -31,38 +31,6 @@ MOST_FILES = resource.getrlimit(resource.RLIMIT_NOFILE)[1]
 # For a hub of which one user may have all sessions.
 MANY_A_USER = ("--connections-a-user", str(SESSIONS))
 DIGESTS = 5
-CONCEPT = "ROW 1000004\t%s\t900000000000207008\t900000000000074008"
-AS_IN_2020 = CONCEPT % "20200131\t1"
-AS_IN_2021 = CONCEPT % "20210131\t0"
-TERM = ("ROW 1000015\t%s\t1\t900000000000207008\t1000004\tde\t900000000000013009\t%s"
-        "\t900000000000448009")
-TERM_IN_2020 = TERM % ("20200131", "Straße")
-TERM_IN_2021 = TERM % ("20210131", "Weg")
-# The first import answers it otherwise than the first two.
-QUESTION = "GET C 1000004 20210131"
-
-
-def test_two_clients(place: Place) -> None:
-    """Two clients have two sessions: a pin is that of one."""
-    with Hub(place, place.make_store()) as hub:
-        first, second = hub.client(), hub.client()
-        assert first.ask("IMPORT r1") == ["OK 1 6 0"]
-        assert second.ask("PIN") == ["OK 1"]
-        assert first.ask("IMPORT r2") == ["OK 2 4 0"]
-        assert first.ask(QUESTION) == [AS_IN_2021, "END 1"]
-        assert second.ask(QUESTION) == [AS_IN_2020, "END 1"]
-        about = "ABOUT D 1000004 20210131"
-        assert first.ask(about) == [TERM_IN_2021, "END 1"]
-        assert second.ask(about) == [TERM_IN_2020, "END 1"]
-        assert second.ask("RECEIPT 2") == ["ERR 44 PinRange"]
-        second.leave()
-        # It may have the session that another one had.
-        assert hub.client().ask(QUESTION) == [AS_IN_2021, "END 1"]
-        lines = f"STATUS\n{QUESTION}\nTERMS 20200131 10 Straße\n"
-        # In a locale that isn't UTF-8, its lines and replies are the same bytes.
-        ran = place.run_script("examples/client.py", hub.socket, given=lines.encode(),
-                               PYTHONIOENCODING="latin-1")
-        assert ran[:2] == (0, f"OK 2 10 2 -\n{AS_IN_2021}\nEND 1\n{TERM_IN_2020}\nEND 1\n")
 
 
 def test_bad_clients(hub: Hub) -> None:
@@ -98,7 +66,7 @@ def test_many_clients(hub: Hub) -> None:
         one_more.leave()
     for client in clients:
         # A pin that one of the clients before them left would show.
-        assert client.ask(QUESTION) == [AS_IN_2021, "END 1"]
+        assert client.ask("RECEIPT 2") == ["OK 2 4 20210131"]
         client.leave()
     served(hub.socket).leave()
 
@@ -107,8 +75,7 @@ def served(path: Path) -> Client:
     """A client that has a session, once those that left have given theirs back."""
     for _ in range(200):
         client = Client(path)
-        client.send(b"STATUS\n")
-        reply = client.read()
+        reply = client.ask("STATUS")
         if reply == STATUS:
             return client
         assert reply == ["ERR 41 Session"]
@@ -161,22 +128,6 @@ def test_turns(place: Place, store: Path) -> None:
     assert not any(b"DIGEST" in line for part in asked_together for line in part)
     # Of the 100 lines, and some of the hub's and of the client's.
     assert len(counts) - len(pages) <= 20 + DIGESTS
-
-
-def test_openings(place: Place, store: Path) -> None:
-    """A store in use, and one that is none, are refused; a hub that is stopped leaves the store."""
-    with Hub(place, store) as hub:
-        assert hub.first_line == "OK ready"
-        with Hub(place.below("other"), store) as second:
-            assert second.first_line == "ERR 2 DiskFault"
-            assert second.end() == 1
-        assert hub.stop() == 0
-        assert not hub.socket.exists()
-    none = place.path("none")
-    none.write_text("no store", encoding="ascii")
-    with Hub(place, none) as third:
-        assert third.first_line.startswith("ERR ")
-        assert third.end() == 1
 
 
 def refused_path(place: Place, store: Path, path: Path, why: str) -> None:
@@ -339,8 +290,7 @@ def test_left_unread(place: Place, store: Path) -> None:
             client.connection.shutdown(socket.SHUT_WR)
         time.sleep(0.2)
         one_more = hub.asker()
-        one_more.send(b"STATUS\n")
-        assert one_more.read() == ["ERR 41 Session"]
+        assert one_more.ask("STATUS") == ["ERR 41 Session"]
         one_more.leave()
         for client, count in zip(asking, asked):
             for _ in range(count):

@@ -1,12 +1,14 @@
 """Tries `sctd verify` with made packages: a sound one is whole at each of its days, and what is
 missing in a store, more, or other than in a Snapshot is told."""
 
+import shutil
+from collections import Counter, defaultdict
 from collections.abc import Callable, Iterable
 from pathlib import Path
 
 import pytest
 
-from harness import Place, concept, description, concept_id, same, write_release
+from harness import Place, concept, same
 import make_release as rf2
 
 ROWS, SEED = 2_500, 3
@@ -36,29 +38,20 @@ def head_of(path: Path) -> str:
     return path.read_text("utf-8").splitlines()[0]
 
 
-def latest(rows: Iterable[Row], day: str) -> list[Row]:
-    """The latest row of each component up to a day."""
-    found: dict[str, Row] = {}
-    for row in sorted(rows, key=lambda row: row[1]):
-        if row[1] <= day:
-            found[row[0]] = row
-    return list(found.values())
-
-
 def write_snapshot(package: Path, day: str, name: str = "Snapshot_{}") -> Path:
-    """Writes what a package's Full shows at a day, as the Snapshot of that day."""
+    """Writes the latest row of each component of a package's Full up to a day, as the Snapshot of
+    that day."""
     to = package / name.format(day)
-    for path in (package / "Full").rglob("*.txt"):
-        name = path.name.replace("Full", "Snapshot").rpartition("_")[0] + f"_{day}.txt"
-        file = to / path.relative_to(package / "Full").parent / name
-        write_rows(file, head_of(path), latest(rows_in(path), day))
+    for sort, path in rf2.files_of(package / "Full"):
+        rows = sorted((row for row in rows_in(path) if row[1] <= day), key=lambda row: row[1])
+        latest = {row[0]: "\t".join(row) for row in rows}
+        rf2.write_file(str(to), "Snapshot", day, rf2.SORTS[sort], latest.values())
     return to
 
 
 def days_of(package: Path) -> list[str]:
     """The days of a package's rows."""
-    return sorted({row[1] for path in (package / "Full").rglob("*.txt")
-                   for row in rows_in(path)})
+    return sorted({row[1] for sort in rf2.SORTS for row in rf2.rows_of(package / "Full", sort)})
 
 
 @pytest.fixture(name="package", scope="module")
@@ -74,9 +67,8 @@ def an_extension(tried: Place) -> Path:
     """A package of another module."""
     package = tried.path("extension")
     days = ("20240131", "20250131")
-    rows: dict[str, list[str]] = dict.fromkeys(rf2.KINDS, [])
-    rows["C"] = [concept(number, day, module=EXTENSION) for number in NAMES for day in days]
-    rf2.write(str(package / "Full"), "Full", days[-1], rows)
+    rows = [concept(number, day, module=EXTENSION) for number in NAMES for day in days]
+    rf2.write(str(package / "Full"), "Full", days[-1], defaultdict(list, C=rows))
     return package
 
 
@@ -88,18 +80,22 @@ def a_store(tried: Place, package: Path, extension: Path) -> Path:
     return store
 
 
+@pytest.fixture
+def snapshot(package: Path) -> Path:
+    """The Snapshot of the package's last day."""
+    return write_snapshot(package, days_of(package)[-1])
+
+
 def counts(snapshot: Path) -> str:
     """How many rows a Snapshot has of each kind."""
-    rows = dict.fromkeys(KINDS, 0)
-    for sort, path in rf2.files_of(snapshot):
-        if sort not in rf2.UNKEPT_SORTS:
-            rows[rf2.SORTS[sort].kind] += len(rows_in(path))
+    rows = Counter(rf2.SORTS[sort].kind for sort in rf2.SORTS if sort not in rf2.UNKEPT_SORTS
+                   for _ in rf2.rows_of(snapshot, sort))
     return " ".join(str(rows[kind]) for kind in KINDS)
 
 
-def differences(place: Place, store: Path, snapshot: Path, *words: str) -> tuple[list[int], str]:
+def differences(place: Place, store: Path, snapshot: Path) -> tuple[list[int], str]:
     """How many components are missing, more and other, and what is told of them."""
-    ran = place.run("verify", "--store", store, *words, snapshot)
+    ran = place.run("verify", "--store", store, snapshot)
     assert ran.status == 1 and ran.output.startswith(DIFFERS), ran
     return list(map(int, ran.output.removeprefix(DIFFERS).split())), ran.faults
 
@@ -114,44 +110,39 @@ def test_each_day(place: Place, package: Path, extension: Path, store: Path) -> 
                  f"OK {counts(snapshot)}")
 
 
+def without(release: Path, sort: str) -> Path:
+    """A release without its files of a sort."""
+    for _, path in list(rf2.files_of(release, [sort])):
+        path.unlink()
+    return release
+
+
 @pytest.mark.parametrize("sort", [
     sort for sort in rf2.PACKAGE_SHARES if sort not in rf2.UNKEPT_SORTS])
-def test_file_left_out(place: Place, package: Path, sort: str) -> None:
+def test_file_left_out(place: Place, package: Path, snapshot: Path, sort: str) -> None:
     """Of a file that wasn't imported each component is missing; of one that isn't in the Snapshot
     each is more."""
-    day = days_of(package)[-1]
-    snapshot = write_snapshot(package, day)
-    left_out = [path for _, path in rf2.files_of(snapshot, [sort])]
-    many = sum(len(rows_in(path)) for path in left_out)
+    many = sum(1 for _ in rf2.rows_of(snapshot, sort))
     assert many > 0
-    full = place.path("full")
-    for path in (package / "Full").rglob("*.txt"):
-        if path not in [file for _, file in rf2.files_of(package / "Full", [sort])]:
-            to = full / path.relative_to(package / "Full")
-            to.parent.mkdir(parents=True, exist_ok=True)
-            to.write_bytes(path.read_bytes())
-    store = place.make_store("part", layout=3)
-    place.import_one(store, full)
-    found, told = differences(place, store, snapshot)
+    part, whole = (place.make_store(name, layout=3) for name in ("part", "whole"))
+    place.import_one(part, without(shutil.copytree(package / "Full", place.path("full")), sort))
+    found, told = differences(place, part, snapshot)
     same("the differences", found, [many, 0, 0])
     assert told.count("the store shows none of this component") == min(many, 10)
-    whole = place.make_store("whole", layout=3)
     place.import_one(whole, package / "Full")
-    for path in left_out:
-        path.unlink()
-    same("the differences", differences(place, whole, snapshot)[0], [0, many, 0])
+    found, _ = differences(place, whole, without(snapshot, sort))
+    same("the differences", found, [0, many, 0])
 
 
 def test_day_left_out(place: Place, package: Path) -> None:
     """A store without the rows of one day lacks new components, and has old rows of others."""
     days = days_of(package)
     left_out = days[len(days) // 2]
-    full = place.path("full")
+    full = shutil.copytree(package / "Full", place.path("full"))
     new, changed = 0, 0
-    for sort, path in rf2.files_of(package / "Full"):
+    for sort, path in rf2.files_of(full):
         rows = rows_in(path)
-        write_rows(full / path.relative_to(package / "Full"), head_of(path),
-                   [row for row in rows if row[1] != left_out])
+        write_rows(path, head_of(path), [row for row in rows if row[1] != left_out])
         if sort not in rf2.UNKEPT_SORTS:
             before = {row[0] for row in rows if row[1] < left_out}
             those = {row[0] for row in rows if row[1] == left_out}
@@ -183,28 +174,29 @@ def without_a_row(snapshot: Path) -> list[int]:
     return [0, 1, 0]
 
 
+def with_a_concept(snapshot: Path, number: int, day: str, module: int) -> None:
+    path = first_file(snapshot, "C")
+    row = concept(number, day, module=module).split("\t")
+    write_rows(path, head_of(path), [*rows_in(path), row])
+
+
 def with_a_strangers_row(snapshot: Path) -> list[int]:
     """The Snapshot has a row of a component that no release has, of another module."""
-    path = first_file(snapshot, "C")
-    row = concept(9_000, "20200131", module=STRANGER).split("\t")
-    write_rows(path, head_of(path), [*rows_in(path), row])
+    with_a_concept(snapshot, 9_000, "20200131", STRANGER)
     return [1, 0, 0]
 
 
 def with_a_row_of_the_extension(snapshot: Path) -> list[int]:
     """The Snapshot names a module of which it has one of the store's components."""
-    path = first_file(snapshot, "C")
-    row = concept(NAMES[0], "20250131", module=EXTENSION).split("\t")
-    write_rows(path, head_of(path), [*rows_in(path), row])
+    with_a_concept(snapshot, NAMES[0], "20250131", EXTENSION)
     return [0, len(NAMES) - 1, 0]
 
 
 @pytest.mark.parametrize("change", (
     with_a_changed_row, without_a_row, with_a_strangers_row, with_a_row_of_the_extension))
-def test_wrong_snapshot(place: Place, package: Path, store: Path,
+def test_wrong_snapshot(place: Place, snapshot: Path, store: Path,
                         change: Callable[[Path], list[int]]) -> None:
     """What differs is counted, and told."""
-    snapshot = write_snapshot(package, days_of(package)[-1])
     wanted = change(snapshot)
     found, told = differences(place, store, snapshot)
     same("the differences", found, wanted)
@@ -221,23 +213,8 @@ def test_snapshot_of_another_day(place: Place, package: Path, store: Path) -> No
     assert found[0] == 0 and found[1] + found[2] > 0
 
 
-def test_list(place: Place, package: Path, extension: Path, store: Path) -> None:
-    """As many differences are told as are asked for, and how many more there are."""
-    assert extension.exists()
-    snapshot = write_snapshot(package, days_of(package)[-1])
-    with_a_row_of_the_extension(snapshot)
-    _, told = differences(place, store, snapshot, "--list", "3")
-    same("how many are told", told.count("the store shows"), 3)
-    assert f"sctd: and {len(NAMES) - 4} more are more\n" in told
-    _, told = differences(place, store, snapshot, "--list", "0")
-    same("what is told", told, f"sctd: and {len(NAMES) - 1} more are more\n")
-
-
-def test_refusals(place: Place, package: Path, store: Path) -> None:
-    """A folder without a Snapshot, and a faulty line, are told as a check of a release does."""
-    ran = place.run("verify", "--store", store, package / "Full")
-    same("what is answered", ran[:2], (1, "ERR 45 NoFolder\n"))
-    snapshot = write_snapshot(package, days_of(package)[-1])
+def test_faulty_line(place: Place, snapshot: Path, store: Path) -> None:
+    """It is told as a check of a release does."""
     path = first_file(snapshot, "R")
     rows = rows_in(path)
     rows[4][3] = "1"
@@ -245,17 +222,3 @@ def test_refusals(place: Place, package: Path, store: Path) -> None:
     ran = place.run("verify", "--store", store, snapshot)
     assert ran.status == 1 and ran.output.startswith("ERR 28 "), ran
     assert f"{path.name}, line 6: " in ran.faults
-
-
-def test_small_store(place: Place) -> None:
-    """Descriptions of one concept, in a Delta that was never imported, are missing."""
-    store = place.make_store("small", layout=3)
-    release = write_release(place.path("delta"), {"C": [concept(1)]})
-    place.import_one(store, release)
-    rows: dict[str, list[str]] = dict.fromkeys(rf2.KINDS, [])
-    rows |= {"C": [concept(1)], "D": [description(1, concept_id(1), "a term")]}
-    snapshot = place.path("Snapshot")
-    rf2.write(str(snapshot), "Snapshot", "20260131", rows)
-    found, told = differences(place, store, snapshot)
-    same("the differences", found, [1, 0, 0])
-    assert "a term" in told

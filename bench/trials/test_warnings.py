@@ -1,7 +1,7 @@
 """Tries of what in a release people are warned, with the built program: a made package of all sorts
 of files, whose second module builds on the first, in 8 releases, as Fulls and as Deltas. Sound ones
-are imported without a warning, and each of what goes wrong is told by its own sentence, by `import`,
-by `import --check`, through the hub and, where a store isn't needed for it, by `serve`."""
+are imported without a warning, and what goes wrong is told by `import`, `import --check`, the hub
+and, where a store isn't needed for it, `serve`. bench/cases/warnings.txt has small releases."""
 
 from __future__ import annotations
 
@@ -10,14 +10,16 @@ import re
 import shutil
 import zlib
 from collections import Counter
-from collections.abc import Callable, Iterator
+from collections.abc import Callable, Iterator, Sequence
+from functools import partial
 from pathlib import Path
 from typing import NamedTuple
 
 import pytest
 
 from harness import Client, Hub, Place, concept_id
-from test_verify import first_file
+from test_checks import notes_of
+from test_verify import first_file, without
 import make_release as rf2
 
 ROWS, SEED = 1_500, 5
@@ -33,7 +35,10 @@ MOST_NAMED = 10
 UNKEPT = set(rf2.UNKEPT_SORTS)
 WARNING = "sctd: warning: "
 UNKNOWN = WARNING + "modules of which neither the store nor the release has the concept: {}"
-BUILDS = WARNING + "this release builds on {} of module {}, of which the store has nothing{}"
+BUILDS = (WARNING + "this release builds on {} of module {}, of which the store has nothing "
+          "later than {}")
+LEFT_OUT = WARNING + "{} of concepts was taken, and no {} file"
+CUT_OFF = WARNING + "{}: its last line has no end; was the file cut off?"
 # What is told where a sort of files is left out of a Full, and of a Delta.
 OF_FULLS = {"D": "Description", "R": "Relationship"}
 OF_ALL = {"TextDefinition": "TextDefinition", "Language": "Language", "A": "Association",
@@ -155,63 +160,39 @@ def served(place: Place, store: Path, release: Path) -> list[str]:
     return told[0].splitlines()
 
 
-# ---- Sound releases
+@pytest.fixture
+def store(place: Place) -> Path:
+    return place.make_store(layout=3)
 
 
-def test_sound_fulls(place: Place, package: Package) -> None:
-    store = place.make_store(layout=3)
-    for number in range(len(DAYS)):
-        assert warnings(place, store, package.full(number)) == []
+# ---- Sound releases, and what is wrong with one by itself
 
 
-def test_sound_deltas(place: Place, package: Package) -> None:
-    store, served_store = place.make_store(layout=3), place.make_store("served", layout=3)
-    for number in range(len(DAYS)):
-        delta = package.delta(number)
-        assert warnings(place, store, delta) == served(place, served_store, delta) == []
-
-
-def test_sound_parts(place: Place, package: Package) -> None:
-    """An extension after what it builds on, the first time as well."""
-    store = place.make_store(layout=3)
-    for number in range(len(DAYS)):
-        for module in (rf2.CORE, EXTENSION):
-            assert warnings(place, store, package.part(number, module)) == []
-
-
-def test_sound_in_layout_2(place: Place, package: Package) -> None:
-    store = place.make_store(layout=2)
-    for number in (0, 1):
-        assert warnings(place, store, package.full(number)) == []
-
-
-# ---- What is wrong with a release by itself
-
-
-def without(release: Path, sort: str) -> Path:
-    """A release without its files of a sort."""
-    for _, path in list(rf2.files_of(release, [sort])):
-        path.unlink()
-    return release
+@pytest.mark.parametrize("layout, count, releases", (
+    (2, 2, (Package.full,)), (3, len(DAYS), (Package.full,)), (3, len(DAYS), (Package.delta,)),
+    # (An extension comes after what it builds on, the first time as well.)
+    (3, len(DAYS), (partial(Package.part, module=rf2.CORE),
+                    partial(Package.part, module=EXTENSION)))),
+    ids=("in layout 2", "fulls", "deltas", "parts"))
+def test_sound(place: Place, package: Package, layout: int, count: int,
+               releases: Sequence[Callable[[Package, int], Path]]) -> None:
+    """Of the releases of so many days nothing is told."""
+    store, served_store = (place.make_store(name, layout) for name in ("imported", "served"))
+    for number in range(count):
+        for make in releases:
+            release = make(package, number)
+            assert warnings(place, store, release) == served(place, served_store, release) == []
 
 
 @pytest.mark.parametrize("sort", (*OF_FULLS, *OF_ALL))
-def test_left_out(place: Place, package: Package, sort: str) -> None:
+def test_left_out(place: Place, package: Package, store: Path, sort: str) -> None:
     """Each sort of files that is left out of a Full, or of a Delta."""
-    store, kind = place.make_store(layout=3), "a Full file" if sort in OF_FULLS else "a file"
-    told = [f"{WARNING}{kind} of concepts was taken, and no {(OF_FULLS | OF_ALL)[sort]} file"]
+    kind = "a Full file" if sort in OF_FULLS else "a file"
+    told = [LEFT_OUT.format(kind, (OF_FULLS | OF_ALL)[sort])]
     full = without(package.full(2), sort)
     assert warnings(place, store, full) == served(place, store, full) == told
     delta = without(package.delta(3), sort)
     assert warnings(place, store, delta) == ([] if sort in OF_FULLS else told)
-
-
-def test_other_sorts_left_out(place: Place, package: Package) -> None:
-    """Of files that not each release has nothing is told."""
-    full = package.full(1)
-    for sort in set(rf2.SORTS) - UNKEPT - {"C", *OF_FULLS, *OF_ALL}:
-        without(full, sort)
-    assert warnings(place, place.make_store(layout=3), full) == []
 
 
 def change(path: Path, old: bytes, new: bytes) -> None:
@@ -220,10 +201,83 @@ def change(path: Path, old: bytes, new: bytes) -> None:
     path.write_bytes(text.replace(old, new, 1))
 
 
+@pytest.mark.parametrize("days, is_told", ((2, True), (-2, False)))
+def test_late_row(place: Place, package: Package, store: Path, days: int, is_told: bool) -> None:
+    """A row that is dated after today; the day of a machine's clock may end meanwhile."""
+    now = datetime.datetime.now(datetime.timezone.utc).date()
+    day = (now + datetime.timedelta(days=days)).strftime("%Y%m%d")
+    delta = package.delta(0)
+    change(first_file(delta, "D"), DAYS[0].encode(), day.encode())
+    told = warnings(place, store, delta)
+    assert len(told) == is_told
+    assert all(line.startswith(f"{WARNING}an effectiveTime is {day}, and today is ")
+               for line in told)
+
+
+# ---- What is wrong with it beside a store
+
+
 def with_a_stranger(release: Path) -> Path:
     """A release with a row of a module of which nobody has the concept."""
     change(first_file(release, "D"), str(rf2.CORE).encode(), str(STRANGER).encode())
     return release
+
+
+def with_concept(release: Path, concept: int, day: str, module: int) -> Path:
+    with first_file(release, "C").open("ab") as file:
+        file.write(b"%d\t%s\t1\t%d\t%d\r\n" % (concept, day.encode(), module, rf2.PRIMITIVE))
+    return release
+
+
+def builds(number: int) -> list[str]:
+    """What is told where the store has nothing so late of what the extension builds on."""
+    return [BUILDS.format(DAYS[number], module, DAYS[number - 1])
+            for module in (rf2.MODEL, rf2.CORE)]
+
+
+def test_stranger(place: Place, package: Package, store: Path) -> None:
+    """A row of a module of which nobody has the concept; with its concept it's no stranger."""
+    assert warnings(place, store, package.delta(0)) == []
+    delta = with_a_stranger(package.delta(1))
+    assert warnings(place, store, delta) == [UNKNOWN.format(STRANGER)]
+    known = with_concept(package.delta(2), STRANGER, DAYS[2], STRANGER)
+    assert warnings(place, store, known) == []
+    assert warnings(place, store, delta) == []
+
+
+def test_many_strangers(place: Place, package: Package, store: Path) -> None:
+    """Of many such modules the first ten are named, in their order, and how many more there are."""
+    delta = package.delta(1)
+    assert warnings(place, store, package.delta(0)) == []
+    strangers = [str(concept_id(number)) for number in range(MOST_NAMED + 2)]
+    for module in reversed(strangers):
+        change(first_file(delta, "D"), str(rf2.CORE).encode(), module.encode())
+    told, = warnings(place, store, delta)
+    assert re.findall("[0-9]+", told) == [*strangers[:MOST_NAMED], "2"]
+
+
+def test_base_of_an_earlier_layout(place: Place, package: Package) -> None:
+    """A store that was copied from layout 2 has no row of dependencies: where it has the concept of
+    a module, all its rows count."""
+    base, unknown = place.make_store("base", layout=2), UNKNOWN.format(EXTENSION)
+    missing = builds(1)
+    for number, wanted in ((0, [unknown, *missing]), (1, [unknown])):
+        part = package.part(number, rf2.CORE)
+        for module in (rf2.MODEL, rf2.CORE):
+            with_concept(part, module, DAYS[0], rf2.MODEL)
+        place.import_one(base, part)
+        store = place.copy(base, f"copy {number}", layout=3)
+        assert warnings(place, store, package.part(1, EXTENSION)) == wanted
+
+
+# ---- Through the hub
+
+
+def notes_of_done(client: Client, line: str) -> list[str]:
+    """What is told beside the reply to a line that is carried out, in order."""
+    notes, reply = notes_of(client, line)
+    assert reply.startswith("OK "), reply
+    return sorted(notes)
 
 
 def cut(release: Path) -> Path:
@@ -233,135 +287,12 @@ def cut(release: Path) -> Path:
     return release
 
 
-def test_cut_file(place: Place, package: Package) -> None:
-    """A file that lost the end of its last line, and perhaps more."""
-    delta = cut(package.delta(0))
-    path = first_file(delta, "SimpleMap")
-    told = [f"{WARNING}{path.name}: its last line has no end; was the file cut off?"]
-    store = place.make_store(layout=3)
-    assert served(place, place.make_store("served", layout=3), delta) == told
-    assert warnings(place, store, delta) == told
-
-
-def test_late_row(place: Place, package: Package) -> None:
-    """A row that is dated after today; the day of a machine's clock may end meanwhile."""
-    now = datetime.datetime.now(datetime.timezone.utc).date()
-    for days, is_told in ((2, True), (-2, False)):
-        day = (now + datetime.timedelta(days=days)).strftime("%Y%m%d")
-        store, delta = place.make_store(day, layout=3), package.delta(0)
-        change(first_file(delta, "D"), DAYS[0].encode(), day.encode())
-        told = warnings(place, store, delta)
-        assert len(told) == is_told
-        assert all(line.startswith(f"{WARNING}an effectiveTime is {day}, and today is ")
-                   for line in told)
-        shutil.rmtree(delta)
-
-
-def test_empty_release(place: Place, package: Package) -> None:
-    """A release of column names alone."""
-    delta = package.delta(0)
-    for path in delta.rglob("*.txt"):
-        path.write_bytes(path.read_bytes().splitlines(keepends=True)[0])
-    store = place.make_store(layout=3)
-    told = [WARNING + "the release has no row"]
-    assert served(place, store, delta) == warnings(place, store, delta) == told
-
-
-# ---- What is wrong with it beside a store
-
-
-def test_stranger(place: Place, package: Package) -> None:
-    """A row of a module of which nobody has the concept; with its concept it's no stranger."""
-    store = place.make_store(layout=3)
-    assert warnings(place, store, package.delta(0)) == []
-    stranger = str(STRANGER).encode()
-    delta = with_a_stranger(package.delta(1))
-    assert warnings(place, store, delta) == [UNKNOWN.format(STRANGER)]
-    known = package.delta(2)
-    path = first_file(known, "C")
-    with path.open("ab") as file:
-        file.write(b"%s\t%s\t1\t%s\t%d\r\n" % (stranger, DAYS[2].encode(), stranger, rf2.PRIMITIVE))
-    assert warnings(place, store, known) == []
-    assert warnings(place, store, delta) == []
-
-
-def test_many_strangers(place: Place, package: Package) -> None:
-    """Of many such modules the first ten are named, in their order, and how many more there are."""
-    store, delta = place.make_store(layout=3), package.delta(1)
-    assert warnings(place, store, package.delta(0)) == []
-    strangers = [str(concept_id(number)) for number in range(MOST_NAMED + 2)]
-    path = first_file(delta, "D")
-    for module in reversed(strangers):
-        change(path, str(rf2.CORE).encode(), module.encode())
-    told, = warnings(place, store, delta)
-    assert re.findall("[0-9]+", told) == [*strangers[:MOST_NAMED], "2"]
-
-
-def test_delta_left_out(place: Place, package: Package) -> None:
-    """A Delta of the extension, where the one that it builds on was left out; and once it is there."""
-    store = place.make_store(layout=3)
-    for number, module in ((0, rf2.CORE), (0, EXTENSION), (1, EXTENSION), (1, rf2.CORE),
-                           (1, EXTENSION)):
-        told = warnings(place, store, package.part(number, module))
-        is_whole = module == rf2.CORE or number == 0 or place.status(store).startswith("OK 5 ")
-        later = f" later than {DAYS[0]}"
-        wanted = [BUILDS.format(DAYS[1], module, later) for module in (rf2.MODEL, rf2.CORE)]
-        assert told == ([] if is_whole else wanted)
-
-
-def test_missing_base(place: Place, package: Package) -> None:
-    """An extension without what it builds on, into an empty store and then again."""
-    store = place.make_store(layout=3)
-    for number in (0, 1):
-        wanted = [BUILDS.format(DAYS[number], module, "") for module in (rf2.MODEL, rf2.CORE)]
-        assert warnings(place, store, package.part(number, EXTENSION)) == wanted
-
-
-def test_inactive_dependency(place: Place, package: Package) -> None:
-    """An extension that no longer builds on another module."""
-    part = package.part(0, EXTENSION)
-    path = first_file(part, "ModuleDependency")
-    path.write_bytes(path.read_bytes().replace(b"\t1\t", b"\t0\t"))
-    assert warnings(place, place.make_store(layout=3), part) == []
-
-
-def test_base_of_an_earlier_layout(place: Place, package: Package) -> None:
-    """A store that was copied from layout 2 has no row of dependencies: where it has the concept of
-    a module, all its rows count."""
-    base = place.make_store("base", layout=2)
-    unknown, later = UNKNOWN.format(EXTENSION), f" later than {DAYS[0]}"
-    missing = [BUILDS.format(DAYS[1], module, later) for module in (rf2.MODEL, rf2.CORE)]
-    for number, wanted in ((0, [unknown, *missing]), (1, [unknown])):
-        part = package.part(number, rf2.CORE)
-        path = first_file(part, "C")
-        with path.open("ab") as file:
-            for module in (rf2.MODEL, rf2.CORE):
-                file.write(b"%d\t%s\t1\t%d\t%d\r\n" % (module, DAYS[0].encode(), rf2.MODEL,
-                                                      rf2.PRIMITIVE))
-        place.import_one(base, part)
-        store = place.copy(base, f"copy {number}", layout=3)
-        assert warnings(place, store, package.part(1, EXTENSION)) == wanted
-
-
-# ---- Through the hub
-
-
-def notes_of(client: Client, line: str) -> list[str]:
-    """What is told beside the reply to a line that is carried out."""
-    *notes, reply = client.ask(line)
-    assert reply.startswith("OK ") and all(note.startswith("NOTE ") for note in notes), reply
-    return [note.removeprefix("NOTE ") for note in notes]
-
-
-def test_hub(place: Place, package: Package) -> None:
+def test_hub(place: Place, package: Package, store: Path) -> None:
     """The hub's CHECK and IMPORT tell all, and one that isn't checked what needs no store, to who
     asks for notes; the log has it too. Sound releases are told nothing of."""
-    store = place.make_store(layout=3)
-    no_file = WARNING + "a file of concepts was taken, and no Language file"
-    maps = first_file(package.delta(2), "SimpleMap").name
-    cut_off = f"{WARNING}{maps}: its last line has no end; was the file cut off?"
-    missing = [BUILDS.format(DAYS[4], module, f" later than {DAYS[3]}")
-               for module in (rf2.MODEL, rf2.CORE)]
+    no_file = LEFT_OUT.format("a file", "Language")
+    cut_off = CUT_OFF.format(first_file(package.delta(2), "SimpleMap").name)
+    missing = builds(4)
     # Releases, what of them needs no store, and what else is told of them.
     releases: tuple[tuple[Path, list[str], list[str]], ...] = (
         (package.delta(0), [], []),
@@ -379,10 +310,10 @@ def test_hub(place: Place, package: Package) -> None:
             assert client.ask("NOTES") == ["OK"]
             for release, by_itself, beside in releases:
                 name, told = release.name, by_itself + beside
-                assert sorted(notes_of(client, f"CHECK {name}")) == sorted(told), name
-                assert notes_of(other, f"CHECK {name}") == []
+                assert notes_of_done(client, f"CHECK {name}") == sorted(told), name
+                assert notes_of_done(other, f"CHECK {name}") == []
                 by_import = told if is_checked else by_itself
-                assert sorted(notes_of(client, f"IMPORT {name}")) == sorted(by_import), name
+                assert notes_of_done(client, f"IMPORT {name}") == sorted(by_import), name
                 wanted.update(told + told + by_import)
             logged = (line for line in hub.told().splitlines() if line.startswith(WARNING))
             assert Counter(logged) == wanted
@@ -391,14 +322,12 @@ def test_hub(place: Place, package: Package) -> None:
 # ---- None of it changes what is done
 
 
-def test_warnings_change_nothing(place: Place, package: Package) -> None:
+def test_warnings_change_nothing(place: Place, package: Package, store: Path) -> None:
     """The import of a release with every fault has its reply, status and rows."""
-    release: Callable[[Path], Path] = lambda folder: without(without(folder, "A"), "Language")
-    part = release(package.part(0, EXTENSION))
+    part = without(without(package.part(0, EXTENSION), "A"), "Language")
     path = first_file(part, "D")
     change(path, LATER_DAYS[0].encode(), b"29991231")
     path.write_bytes(path.read_bytes()[:-2])
     rows = sum(len(path.read_bytes().splitlines()) - 1 for path in part.rglob("*.txt"))
-    store = place.make_store(layout=3)
     assert len(warnings(place, store, part)) == 6
     assert place.status(store) == f"OK 1 {rows} 1 -"

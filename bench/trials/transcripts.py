@@ -67,6 +67,12 @@ class Place:
             return Outcome(status, taken, wrote[1] or b"")
 
 
+    def files(self) -> dict[Path, tuple[int, int]]:
+        """When each file in the folder was last written, and what else was done to it last."""
+        stats = ((path, path.lstat()) for path in self.folder.rglob("*"))
+        return {path: (stat.st_mtime_ns, stat.st_ctime_ns) for path, stat in stats}
+
+
 @contextmanager
 def given_input(given: Given) -> Iterator[int]:
     """What a command reads: nothing, a pipe, a piece at a time, or what can't be read."""

@@ -36,6 +36,8 @@ LONG = 4088
 # The row of a year, and the release that brings it.
 YEAR_ROW, YEAR_RELEASE = "138875005|%d0131|1|CORE|PRIM", "new-in-%d"
 HEADING = re.compile(r"^==== (.*)\n", re.MULTILINE)
+# The status of what is refused, which leaves all files as they were; of a session each line is.
+REFUSED, SESSION = 1, "serve"
 ELSE, THE_FILE = "something else came", "the file"
 
 TELLS: dict[str, Callable[[str, str], bool]] = {
@@ -121,7 +123,12 @@ class Run:
         if self.is_due:
             raise Fault(self.number, "the last line has no whole reply")
         given = Given(None if self.fails else self.sent, self.room, piece=self.piece)
+        before = place.files()
         came = place.run(self.words, given)
+        # (A command whose reply had no room may have been done.)
+        is_refused = came.status == REFUSED and self.room is None and SESSION not in self.words
+        if is_refused and place.files() != before:
+            raise Fault(self.number, "a file isn't as it was before the refusal")
         told = text_of(came.faults)
         for line in self.tells:
             if not TELLS[line.word](told, line.rest):

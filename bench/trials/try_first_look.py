@@ -9,10 +9,11 @@ to end with all that it started at Ctrl-C, to keep its store for the next time, 
 where the usual one is taken, and to name what is missing.
 """
 
+from __future__ import annotations
+
 import contextlib
 import os
 import re
-import select
 import shutil
 import signal
 import socket
@@ -22,10 +23,11 @@ import tempfile
 import time
 from collections.abc import Iterator
 from pathlib import Path
+from typing import NamedTuple
 from urllib.parse import urlsplit
 
 import chromium
-from harness import NotRun, Wrong, parser_of, same, tell
+from harness import NotRun, Wrong, parser_of, same, tell, until
 
 ROOT = Path(__file__).resolve().parents[2]
 sys.path += [str(ROOT / "packaging"), str(ROOT / "bench")]
@@ -43,6 +45,7 @@ WANTED_FHIR = '"name":"display","valueString":"Street"'
 WANTED_LINE = "ROW 1000004\t20200131\t1\t900000000000207008\t900000000000074008\nEND 1\n"
 WANTED_PAGE = "SNOMED CT 1000004 |Street (environment)| on 2020-06-30: active"
 NOT_PROVED = "NOT PROVED"
+LAST_LINE = "Ctrl-C ends all.\n"
 
 
 class Told:
@@ -94,47 +97,36 @@ def put_program(clone: Path, program: Path) -> None:
     (home / built.SOURCES).write_text(digest, encoding="ascii")
 
 
-class Look:
-    def __init__(self, clone: Path, *words: str, **around: str) -> None:
-        self.process = subprocess.Popen(
-            [str(clone / "try"), *words], cwd="/", env=os.environ | around,
-            stdin=subprocess.DEVNULL, stdout=subprocess.PIPE, stderr=subprocess.STDOUT,
-            start_new_session=True)
-        assert self.process.stdout
-        self.output, self.text = self.process.stdout, ""
-
-    def read_until(self, part: str, seconds: float) -> None:
-        """Reads what it prints until this is there, or its output ends."""
-        end = time.monotonic() + seconds
-        while part not in self.text:
-            if not select.select([self.output], [], [], max(end - time.monotonic(), 0))[0]:
-                raise Wrong("nothing more within %d seconds: %r" % (seconds, self.text))
-            data = os.read(self.output.fileno(), 1 << 16)
-            if not data:
-                return
-            self.text += data.decode("utf-8", "backslashreplace")
-
-    def told(self, seconds: float) -> Told:
-        self.read_until("Ctrl-C ends all.\n", seconds)
-        return Told(self.text)
-
-    def interrupt(self) -> int:
-        """Its status after Ctrl-C."""
-        self.process.send_signal(signal.SIGINT)
-        return self.process.wait(SECONDS)
-
-
 @contextlib.contextmanager
 def looking(clone: Path, *words: str, **around: str) -> Iterator[Look]:
-    look = Look(clone, *words, **around)
+    with open(clone.with_name("printed"), "wb") as printed:
+        process = subprocess.Popen([str(clone / "try"), *words], cwd="/", env=os.environ | around,
+                                   stdin=subprocess.DEVNULL, stdout=printed,
+                                   stderr=subprocess.STDOUT, start_new_session=True)
     try:
-        yield look
+        yield Look(process, Path(printed.name))
     finally:
         # (Where it was right it has ended by now.)
-        if look.process.poll() is None:
-            look.process.terminate()
-            look.process.wait(SECONDS)
-        look.output.close()
+        process.terminate()
+        process.wait(SECONDS)
+
+
+class Look(NamedTuple):
+    """./try, and the file of what it prints."""
+
+    process: subprocess.Popen[bytes]
+    printed: Path
+
+    def told(self, seconds: float = SECONDS) -> Told:
+        """What it prints once all is there."""
+        until("all that ./try starts", lambda: LAST_LINE in self.printed.read_text("utf-8")
+              or self.process.poll() is not None, seconds)
+        return Told(self.printed.read_text("utf-8"))
+
+    def end(self, how: signal.Signals) -> int:
+        """Its status after a signal, as after Ctrl-C."""
+        self.process.send_signal(how)
+        return self.process.wait(SECONDS)
 
 
 def is_open(port: int) -> bool:
@@ -175,7 +167,7 @@ def first(clone: Path, is_built: bool) -> None:
         again = told.line.replace("GET C 1000004 20200630", "IMPORT package/Full")
         imported = shell(again.replace("/questions.sock", "/sctd.sock"))
         same("an import of one's own", imported, "OK 2 0 34\n")
-        same("the status after Ctrl-C", look.interrupt(), 0)
+        same("the status after Ctrl-C", look.end(signal.SIGINT), 0)
         same("whether the page is still there", is_open(told.port), False)
         sockets = re.findall(r"\S+/questions.sock", told.line)
         same("sockets that are left", [path for path in sockets if os.path.exists(path)], [])
@@ -196,14 +188,13 @@ def second(clone: Path) -> None:
     with usual_port_taken():
         begun = time.monotonic()
         with looking(clone) as look:
-            told = look.told(SECONDS)
+            told = look.told()
             print("the second time: %.1f s" % (time.monotonic() - begun), flush=True)
             same("whether it is another port", told.port != first_look.PORT, True)
             asks(told)
             status = shell(told.line.replace("GET C 1000004 20200630", "STATUS"))
             same("the store", status, "OK 2 34 1 -\n")
-            look.process.terminate()
-            same("the status after SIGTERM", look.process.wait(SECONDS), 0)
+            same("the status after SIGTERM", look.end(signal.SIGTERM), 0)
 
 
 def what_is_missing(clone: Path, place: Path) -> None:
@@ -220,11 +211,10 @@ def what_is_missing(clone: Path, place: Path) -> None:
     (bare / "python3").write_text("#!/bin/sh\nexec %s \"$@\"\n" % sys.executable, encoding="utf-8")
     (bare / "python3").chmod(0o755)
     with looking(clone, PATH=str(bare), PYTHONPATH=str(hiding)) as look:
-        look.read_until("\0", SECONDS)
         same("the status without a kit and modules", look.process.wait(SECONDS), 1)
-        packages = " ".join(MODULES.values())
+        packages, text = " ".join(MODULES.values()), look.printed.read_text("utf-8")
         for part in ("sudo apt-get install %s\n" % packages, "export PATH=", "README.md says"):
-            same("whether it says %r: %r" % (part, look.text), part in look.text, True)
+            same("whether it says %r: %r" % (part, text), part in text, True)
 
 
 def tried(program: Path, is_built: bool) -> None:

@@ -24,7 +24,6 @@ import shutil
 import signal
 import subprocess
 import sys
-import threading
 import time
 from collections import Counter
 from collections.abc import Sequence
@@ -36,9 +35,9 @@ from urllib.parse import urlencode
 
 from machines_releases import CODES, TOP, days_of, rows_of, wording_of, write
 import harness
-from harness import Threads, Wrong, children, parser_of, same, tell, until
+from harness import children, parser_of, same, tell, until
 from proxy_harness import (
-    HAPROXY, LOOK_SECONDS, NGINX, OPENSSL, ROOT, SECONDS, Client, Process, Proxy,
+    HAPROXY, LOOK_SECONDS, NGINX, OPENSSL, ROOT, SECONDS, Asking, Client, Process, Proxy,
     gateway_words, hub_words, need, open_folder, ready, run, stop)
 from tests.compare_releases import Comparison, Differs
 from tests.fixtures import SCT, Json, version
@@ -67,17 +66,19 @@ LOCAL_ADDRESS = "127.77.%d.%d"
 # How a copy is fetched, also from a machine that is just being started.
 FETCH = ("curl", "--fail", "--silent", "--show-error", "--retry-connrefused", "--retry", "30",
          "--retry-delay", "1", "--output")
-# How long a process that ended stays away, as under systemd.
+# How long a process that ended stays away, as under systemd, and what starts it again as long as
+# the trial goes on.
 AWAY_SECONDS = 0.3
+AGAIN = 'while kill -0 $PPID; do "$@"; sleep %s; done' % AWAY_SECONDS
+# What serves copies, once it has said that it is ready.
+SERVING = ("sh", "-c", 'echo OK ready; exec "$@"', "sh", sys.executable, "-m", "http.server")
 # What says that nobody could answer.
 REFUSED = (502, 503, 504)
 # A part of the requests names no pin, a part is an expansion, and of those at a pin a part is at
-# the latest one. A client waits so long until it asks again.
-WITHOUT_PIN, EXPANSIONS = 0.3, 0.15
-LATEST = 0.4
-BETWEEN_SECONDS = 0.03
-# How many Snapshots are remembered, and how many faults are told.
-SNAPSHOTS, TOLD = 1_000, 5
+# the latest one.
+WITHOUT_PIN, EXPANSIONS, LATEST = 0.3, 0.15, 0.4
+# How many Snapshots are remembered.
+SNAPSHOTS = 1_000
 NETWORK_TOOLS = ("ip", "unshare", "nsenter")
 # What says that the networks are there.
 INSIDE = "--inside"
@@ -116,77 +117,61 @@ class Network:
             stop(self.holder)
 
 
+def tree_of(pid: int) -> list[int]:
+    """A process, and all that it has started."""
+    return [pid, *(one for child in children(pid) for one in tree_of(child))]
+
+
 class Machine:
-    """A network with a hub, which starts again what has ended, and a gateway. `levels` has from
+    """A network with a hub and a gateway, which are started again where they end. `levels` has from
     when on it had how many imports, or none where it didn't run for sure."""
 
     def __init__(self, program: str, place: Path, number: int, is_apart: bool) -> None:
         self.program, self.name = program, MACHINES[number]
         self.place, self.releases = place / self.name, place / "releases"
-        self.place.mkdir()
-        (self.place / "store").mkdir()
-        (self.place / "copies").mkdir()
+        for folder in ("store", "copies"):
+            (self.place / folder).mkdir(parents=True)
         self.store, self.own, self.questions = (
             self.place / name for name in ("store/terms", "own", "questions"))
         self.levels: list[tuple[float, int]] = [(0.0, -1)]
-        self.lock, self.is_off, self.is_over = threading.RLock(), False, False
+        # What starts each again; none while the whole machine is off.
         self.processes: dict[str, Process] = {}
         self.network = Network(number, is_apart)
         self.address, self.within = self.network.address, self.network.within
-        self.restarting = threading.Thread(target=self.start_again, daemon=True)
 
     def words(self) -> dict[str, list[str]]:
         sockets = ["--questions", str(self.questions)]
         if self.name == MACHINES[0]:
             sockets += ["--socket", str(self.own)]
-        copies = str(self.place / "copies")
-        served = [sys.executable, "-u", "-m", "http.server", "--bind", self.address, "--directory",
-                  copies, str(COPIES_PORT)]
         return {"hub": hub_words(self.program, self.store, self.releases, *sockets),
                 "gateway": gateway_words(self.questions, "%s:%d" % (self.address, PORT)),
-                "copies": served}
+                "copies": [*SERVING, "--bind", self.address, "--directory",
+                           str(self.place / "copies"), str(COPIES_PORT)]}
 
     def start(self) -> None:
         """Starts what it does, and answers once it does it."""
-        with self.lock:
-            for name in self.words():
-                self.begin(name)
-            self.is_off = False
+        for name, words in self.words().items():
+            again = ["sh", "-c", AGAIN, "sh", *self.within, *words]
+            self.processes[name] = ready(again, self.place / "log")
 
     def start_after_kill(self) -> None:
         self.start()
         self.note(self.imports())
 
-    def begin(self, name: str) -> None:
-        words, log = [*self.within, *self.words()[name]], self.place / "log"
-        if name != "copies":
-            self.processes[name] = ready(words, log)
-            return
-        with open(log, "ab") as faults:
-            self.processes[name] = subprocess.Popen(words, stdout=faults, stderr=faults)
-
-    def start_again(self) -> None:
-        """Starts what has ended, a while later, unless the whole machine is off."""
-        while not self.is_over:
-            time.sleep(LOOK_SECONDS)
-            with self.lock:
-                ended = [name for name, one in self.processes.items() if one.poll() is not None]
-                if ended and not self.is_off and not self.is_over:
-                    time.sleep(AWAY_SECONDS)
-                    for name in ended:
-                        self.begin(name)
+    def hub(self) -> int:
+        """The process of its hub."""
+        number, = children(self.processes["hub"].pid)
+        return number
 
     def kill(self) -> None:
         """Ends all its processes at once, the program among them."""
         self.note(-1)
-        with self.lock:
-            self.is_off = True
-            for one in self.processes.values():
-                programs = children(one.pid) if one.poll() is None else set()
-                for pid in (one.pid, *programs):
-                    with contextlib.suppress(ProcessLookupError):
-                        os.kill(pid, signal.SIGKILL)
-                one.wait()
+        for one in self.processes.values():
+            for pid in tree_of(one.pid):
+                with contextlib.suppress(ProcessLookupError):
+                    os.kill(pid, signal.SIGKILL)
+            one.wait()
+        self.processes = {}
 
     def note(self, imports: int) -> None:
         self.levels.append((time.monotonic(), imports))
@@ -205,10 +190,7 @@ class Machine:
         return int(self.asked("STATUS").split()[1])
 
     def end(self) -> None:
-        self.is_over = True
-        with self.lock:
-            for one in self.processes.values():
-                stop(one)
+        self.kill()
         self.network.end()
 
 
@@ -298,7 +280,6 @@ class Site:
     def start(self) -> None:
         for machine in self.machines:
             machine.start()
-            machine.restarting.start()
         self.proxy.start()
 
     def import_next(self) -> None:
@@ -354,7 +335,7 @@ class Site:
         """The command that puts a copy in place on a machine."""
         return [*reader.within, sys.executable, str(ROOT / "examples" / "take_copy.py"),
                 "--program", self.program, "--store", str(reader.store), "--questions",
-                str(reader.questions), str(copy), "kill", str(reader.processes["hub"].pid)]
+                str(reader.questions), str(copy), "kill", str(reader.hub())]
 
     def start_proxy_again(self) -> None:
         began = time.monotonic()
@@ -375,22 +356,12 @@ class Site:
             machine.end()
 
 
-class Asking(Threads):
-    def __init__(self, site: Site) -> None:
-        super().__init__(site.size.clients, self.ask_all)
-        self.site, self.counts, self.asked, self.faults = site, Counter[str](), 0, list[str]()
+class Questions(Asking):
+    """Clients whose answers are judged, and counted by what they are."""
 
-    def ask_all(self, seed: int) -> None:
-        chance, judge = random.Random(seed), Judge()
-        client = Client(self.site.proxy, self.site.proxy.user)
-        while not self.is_over:
-            try:
-                self.ask(client, judge, self.question(chance))
-            except Exception as why:  # A fault of the trial ends it, too.
-                self.faults.append("a client: %r" % why)
-                raise
-            self.asked += 1
-            time.sleep(BETWEEN_SECONDS)
+    def __init__(self, site: Site) -> None:
+        super().__init__(site.proxy, site.size.clients)
+        self.site, self.counts = site, Counter[str]()
 
     def question(self, chance: random.Random) -> Question:
         latest = self.site.imports
@@ -403,14 +374,12 @@ class Asking(Threads):
             return Question(None, day if day == days[0] else None, code)
         return Question(asked, day, code)
 
-    def ask(self, client: Client, judge: Judge, question: Question) -> None:
-        began, again = time.monotonic(), client.again
+    def ask(self, client: Client, chance: random.Random) -> None:
+        question, began = self.question(chance), time.monotonic()
         try:
             status, headers, body = client.told(question.path)
         except (OSError, http.client.HTTPException) as why:
             return self.refused(question, began, repr(why))
-        finally:
-            self.counts["connections made again"] += client.again - again
         if status in REFUSED:
             return self.refused(question, began, str(status))
         kind = "at a pin" if question.pin is not None else "without a pin"
@@ -419,14 +388,13 @@ class Asking(Threads):
         if pin not in ([question.pin] if question.pin else range(1, self.site.imports + 2)):
             fault = "wrong: pin %d, status %d: %r" % (pin, status, body[:200])
         else:
-            fault = judge.fault(question, pin, status, body)
+            fault = Judge().fault(question, pin, status, body)
         self.counts[fault.partition(":")[0] or "answered " + kind] += 1
         if fault:
             self.faults.append("%s: %s" % (question.path, fault))
 
     def refused(self, question: Question, began: float, why: str) -> None:
-        self.counts["refused"] += 1
-        self.counts["refused: " + why] += 1
+        self.counts.update(("refused", "refused: " + why))
         if not self.site.may_refuse(question.pin, began, time.monotonic()):
             self.counts["refused without need"] += 1
             self.faults.append("%s: refused without need: %s" % (question.path, why))
@@ -435,8 +403,7 @@ class Asking(Threads):
         """Waits until so many are asked, or there is no more time."""
         while self.asked < count and not self.faults and time.monotonic() < self.site.end_at:
             time.sleep(LOOK_SECONDS)
-        if self.faults:
-            raise Wrong("; ".join(self.faults[:TOLD]))
+        self.look()
 
 
 def disturb(site: Site) -> None:
@@ -483,15 +450,14 @@ def tried(site: Site) -> None:
     site.import_next()
     site.feed([site.near, site.far])
     began = time.monotonic()
-    with Asking(site) as asking:
+    with Questions(site) as asking:
         while site.imports < size.imports and time.monotonic() < site.end_at:
             asking.wait_for(size.requests * site.imports // size.imports)
             disturb(site)
         asking.wait_for(size.requests)
-    counts = asking.counts
-    if asking.faults:
-        raise Wrong("; ".join(asking.faults[:TOLD]))
-    if site.near.is_off:
+    asking.look()
+    counts = asking.counts + Counter({"connections made again": asking.again})
+    if not site.near.processes:
         site.near.start_after_kill()
     site.feed([site.near, site.far])
     digests = {one.asked("DIGEST") for one in site.machines}

@@ -12,19 +12,18 @@ missing it tries the other one, says which is skipped, and ends with status 3.
 
 import http.client
 import json
+import random
 import shutil
 import signal
 import sys
-import threading
-import time
 from collections.abc import Callable, Sequence
 from contextlib import closing
 from pathlib import Path
 from typing import Optional
 
-from harness import Hub, NotRun, Place, Threads, parser_of, same, tell
+from harness import Hub, NotRun, Place, parser_of, same, tell
 from proxy_harness import (
-    HOST, KINDS, LANGUAGE, OPENSSL, ROOT, SECONDS, USER, Authority, Client, Kind, Process,
+    HOST, KINDS, LANGUAGE, OPENSSL, ROOT, SECONDS, USER, Asking, Authority, Client, Kind, Process,
     Proxy, free_ports, gateway_words, need, open_folder, ready, stop)
 
 HUBS, GATEWAYS = 2, 3
@@ -32,7 +31,6 @@ HUBS, GATEWAYS = 2, 3
 HUB_OF = (0, 0, 1)
 # How many clients ask beside each trial, and how often each of them does so at least.
 CLIENTS, ASKED = 4, 60
-BETWEEN_SECONDS = 0.05
 # How often gateways are started again, and the proxy reads its configuration.
 RESTARTS, LONG_RESTARTS, READINGS = 3, 100, 3
 LOOKUP = "/fhir/CodeSystem/$lookup?system=http://snomed.info/sct&code=2000001&date=2020-06-30"
@@ -131,41 +129,33 @@ def long_requests(site: Site) -> None:
     same("a long batch", (status, answer.count(b'"status":"200')), (200, ENTRIES))
 
 
-class Asking(Threads):
-    """Clients that ask for a path until they are told to end, and keep what isn't as at first."""
+class Repeating(Asking):
+    """Clients that ask for a path, and keep what isn't as at first."""
 
-    def __init__(self, site: Site, path: str = LOOKUP, may_be_cut: bool = False) -> None:
-        super().__init__(CLIENTS, self.ask)
-        self.site, self.path, self.wanted = site, path, site.client().get(path)
+    def __init__(self, site: Site, path: str = LOOKUP) -> None:
+        super().__init__(site.proxy, CLIENTS, ASKED)
+        self.path, self.wanted = path, site.client().get(path)
         same("the status of %s" % path, self.wanted[0], 200)
-        self.may_be_cut, self.lock = may_be_cut, threading.Lock()
-        self.answered, self.again, self.others = 0, 0, list[object]()
 
-    def ask(self, _seed: int) -> None:
-        client, answered = self.site.client(), 0
-        while not self.is_over or answered < ASKED:
-            try:
-                found: object = client.get(self.path)
-            except (OSError, http.client.HTTPException) as why:
-                found = repr(why)
-            answered += 1
+    def ask(self, client: Client, chance: random.Random) -> None:
+        try:
+            found = client.get(self.path)
+        except (OSError, http.client.HTTPException) as why:
+            self.faults.append(repr(why))
+        else:
             if found != self.wanted:
-                self.others.append(found)
-            time.sleep(BETWEEN_SECONDS)
-        with self.lock:
-            self.answered, self.again = self.answered + answered, self.again + client.again
+                self.faults.append(repr(found))
 
-    def look(self) -> None:
-        same("whether all have asked", self.answered >= CLIENTS * ASKED, True)
-        same("how many were answered otherwise, and the first of these",
-             (len(self.others), self.others[:1]), (0, []))
-        if not self.may_be_cut:
+    def look(self, may_be_cut: bool = False) -> None:
+        same("whether all have asked", self.asked >= CLIENTS * ASKED, True)
+        super().look()
+        if not may_be_cut:
             same("connections that were made again", self.again, 0)
 
 
 def restarts(site: Site) -> str:
     """Gateways are ended and started again while clients ask: none of them notices."""
-    with Asking(site) as asking:
+    with Repeating(site) as asking:
         for count in range(site.restarts):
             number = count % GATEWAYS
             site.gateways[number].send_signal(signal.SIGTERM)
@@ -174,24 +164,24 @@ def restarts(site: Site) -> str:
     asking.look()
     used = {one for line in site.log() for one in str(line["gateway"]).split(", ")}
     same("whether each gateway was asked", set(site.addresses) <= used, True)
-    return "%d restarts, %d requests, 0 lost" % (site.restarts, asking.answered)
+    return "%d restarts, %d requests, 0 lost" % (site.restarts, asking.asked)
 
 
 def readings(site: Site) -> str:
     """The proxy reads its configuration while clients ask, whose connections it may end."""
-    with Asking(site, may_be_cut=True) as asking:
+    with Repeating(site) as asking:
         for _ in range(READINGS):
             site.proxy.read_anew()
-    asking.look()
+    asking.look(may_be_cut=True)
     return "%d readings, %d requests, 0 lost, %d connections made again" % (
-        READINGS, asking.answered, asking.again)
+        READINGS, asking.asked, asking.again)
 
 
 def lacking_a_pin(site: Site) -> str:
     """Two of the gateways lack the imports of a pin, and are passed over."""
     site.import_to(1)
     before, pin = len(site.log()), site.imports[1]
-    with Asking(site, "/pin/%d%s" % (pin, LOOKUP)) as asking:
+    with Repeating(site, "/pin/%d%s" % (pin, LOOKUP)) as asking:
         pass
     asking.look()
     asked = site.log()[before:]
@@ -202,20 +192,20 @@ def lacking_a_pin(site: Site) -> str:
     status, headers, _ = site.client().told("/pin/%d%s" % (pin + 1, LOOKUP))
     same("a pin that nobody has", (status, "retry-after" in headers), (503, True))
     site.import_to(0)
-    return "%d requests, of which %d were sent again, 0 lost" % (asking.answered, passed_over)
+    return "%d requests, of which %d were sent again, 0 lost" % (asking.asked, passed_over)
 
 
 def without_a_hub(site: Site) -> str:
     """A gateway whose hub has ended is passed over; without any hub the answer is 503."""
     before = len(site.log())
-    with Asking(site) as asking:
+    with Repeating(site) as asking:
         same("the end of a hub", site.hubs[1].stop(), 0)
     asking.look()
     same("whether its gateway was passed over", any(map(was_sent_again, site.log()[before:])), True)
     same("the end of the other hub", site.hubs[0].stop(), 0)
     status, headers, _ = site.client().told("/health")
     same("without a hub", (status, "retry-after" in headers), (503, True))
-    return "%d requests, 0 lost" % asking.answered
+    return "%d requests, 0 lost" % asking.asked
 
 
 TRIALS: Sequence[Callable[[Site], Optional[str]]] = (

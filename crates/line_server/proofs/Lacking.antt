@@ -1,6 +1,8 @@
 -- What a store lacks for a command.
 use Rattle.std.proofs.Common.{◌≡◌, ℕ, ◌≤◌, true, false, inl, inr, refl, sym, ap, subst, ◌∙◌}
 use Rattle.std.proofs.lemmas.Bool.{false≢true}
+use Rattle.rf2_values.specs.declared.row.Kind.TheVariants.{Member}
+use Rattle.history_model.specs.InOrder.{Has}
 use Rattle.history_model.specs.History.{History}
 use Rattle.history_store.specs.declared.refusal.Refusal.{Refusal}
 use Rattle.history_store.specs.declared.refusal.Refusal.TheVariants as store
@@ -8,11 +10,12 @@ use Rattle.history_store.specs.Catalog.{Catalog}
 use Rattle.history_store.specs.StoreValue.{StoreValue}
 use Rattle.segment_index.specs.declared.words.Words.{Words}
 use Rattle.index_answers.specs.Words.{lacks_words}
+use Rattle.question_model.specs.Wanted.{kinds_for}
 use Rattle.question_model.specs.Questions.{Question, RowQuestion, ForRows, Words as AskWords}
 use Rattle.line_commands.specs.Commands.{Command, Ask, At}
 use Rattle.history_store.specs.Prepared.{scope_of}
 use Rattle.line_server.specs.Laws.{without_sums}
-use Rattle.line_server.specs.Replies.{Server, IsAskedOf, AsksMembers, Lacks, LacksAny, LacksFor}
+use Rattle.line_server.specs.Replies.{Server, IsAskedOf, Lacks, LacksAny, LacksFor}
 
 -- a store lacks nothing for a question if it lacks neither of the two
 pub none_lacking : {D : Type 0} (question : Question) (s : StoreValue D) (lack : Refusal) → (LacksFor question s store.LaterVersion → ⊥) → (LacksFor question s store.NotKept → ⊥) → LacksFor question s lack → ⊥
@@ -38,8 +41,8 @@ lacks_too (At number question) s t lack history catalog words lacks =
 lacks_too c s t lack history catalog words lacks = absurd lacks
 
 -- a question for words needs no members
-unneeded : (question : RowQuestion) (words : Words) → AsksMembers question → lacks_words question words ≡ true → ⊥
-unneeded (AskWords date wanted_type offset limit text) words members lacks = members
+unneeded : (question : RowQuestion) (words : Words) → Has (kinds_for question) Member → lacks_words question words ≡ true → ⊥
+unneeded (AskWords date wanted_type offset limit text) words members lacks = elim members [ inl same ↦ absurd (cc) | inr none ↦ none ]
 unneeded question words members lacks = false≢true lacks
 
 -- so a store lacks one thing alone

@@ -6,6 +6,7 @@ use Rattle.rf2_values.specs.declared.row.Kind.TheVariants as kinds
 use Rattle.rf2_values.specs.Row.{RowValue}
 use Rattle.rf2_values.specs.Key.{key_of}
 use Rattle.history_model.specs.declared.receipt.Receipt.{Receipt}
+use Rattle.history_model.specs.InOrder.{Has}
 use Rattle.history_model.specs.History.{rows_at}
 use Rattle.history_model.specs.Brought.{ImportReceiptOf}
 use Rattle.history_model.specs.Exports.{rows_added}
@@ -26,11 +27,10 @@ use Rattle.history_store.specs.MergeAnswers.{IsBeginningOf, IsSteppingOf, IsPubl
 use Rattle.history_store.specs.MergeAnswers.{IsAbandoningOf, IsTrimmingOf}
 use Rattle.history_store.specs.Prepared.{scope_of}
 use Rattle.line_commands.specs.declared.unread.Unread.{Unread}
-use Rattle.question_model.specs.Questions.{RowQuestion, Get, History, About, Timeline, Page, Delta}
-use Rattle.question_model.specs.Questions.{Members, Values, Called, AllRows}
+use Rattle.question_model.specs.Questions.{AllRows}
 use Rattle.question_model.specs.Questions.{Question, ForRows, ForIds, Dates as AskDates, Digest}
 use Rattle.question_model.specs.Questions.{Receipt as AskReceipt, Added}
-use Rattle.question_model.specs.Wanted.{rows_for, AreIdsFor}
+use Rattle.question_model.specs.Wanted.{rows_for, kinds_for, AreIdsFor}
 use Rattle.index_answers.specs.Keys.{SameKeysFor}
 use Rattle.index_answers.specs.Words.{lacks_words}
 use Rattle.line_commands.specs.Commands.{Command, Ask, At, Import, Check, Pin, Unpin, Merge, Step}
@@ -344,22 +344,9 @@ IsOutcome honest releases session command (Ok answer) old new =
 IsOutcome honest releases session command (Err refusal) old new =
     IsRefusal honest releases session command refusal old new
 
--- the question asks for members of reference sets, or is answered by what they say
-abbrev pub AsksMembers : RowQuestion → Type 0
-AsksMembers (Get kind id date) = kind ≡ kinds.Member
-AsksMembers (History kind id) = kind ≡ kinds.Member
-AsksMembers (About kind id date) = kind ≡ kinds.Member
-AsksMembers (Timeline kind id) = kind ≡ kinds.Member
-AsksMembers (Page kind date after limit) = kind ≡ kinds.Member
-AsksMembers (Delta kind from date after limit) = kind ≡ kinds.Member
-AsksMembers (Members refset date after limit) = Unit {0}
-AsksMembers (Values refset date after limit) = Unit {0}
-AsksMembers (Called concept date refset) = Unit {0}
-AsksMembers (AllRows kind after limit) = kind ≡ kinds.Member
-AsksMembers _ = ⊥
-
+-- a row of the answer may be a member of a reference set
 abbrev pub NeedsMembers : Question → Type 0
-NeedsMembers (ForRows question) = AsksMembers question
+NeedsMembers (ForRows question) = Has (kinds_for question) kinds.Member
 NeedsMembers (Added number kind after limit) = kind ≡ kinds.Member
 NeedsMembers _ = ⊥
 

@@ -4,10 +4,10 @@ ghost use Rattle.std.specs.Prelude.{◌≤◌, ℕ, List, Option};
 ghost use Rattle.std.specs.Prelude.{◌↔◌, IsTrue, MatchOption};
 ghost use Rattle.line_commands.specs.Commands.{At};
 ghost use Rattle.line_commands.specs.Requests.{command_of};
-ghost use Rattle.question_model.specs.Questions.{question_of, row_question_of};
+ghost use Rattle.question_model.specs.Questions.{question_of};
 ghost use Rattle.history_store.specs.declared.refusal.Refusal.{Refusal};
 ghost use Rattle.history_store.specs.declared.refusal.Refusal.TheVariants as refusals;
-ghost use Rattle.line_server.specs.Replies.{AsksMembers, NeedsMembers, Lacks, LacksAny, LacksFor};
+ghost use Rattle.line_server.specs.Replies.{NeedsMembers, Lacks, LacksAny, LacksFor};
 ghost use Rattle.line_server.specs.Private.{IsCarriedOut, IsQueried, QuestionCanBeAsked};
 
 use crate::queries::{
@@ -23,30 +23,12 @@ use question_model::{Question, RowQuestion};
 use rf2_rows::Kind;
 use std::alloc::Global;
 
-/// Whether the question asks for members of reference sets, or is answered by what they say.
-fn asks_members(question: &RowQuestion<'_>) -> bool
-    ensures { IsTrue result ↔ AsksMembers (row_question_of question.now) }
-{
-    match *question {
-        RowQuestion::Get { kind, .. }
-        | RowQuestion::History { kind, .. }
-        | RowQuestion::About { kind, .. }
-        | RowQuestion::Timeline { kind, .. }
-        | RowQuestion::Page { kind, .. }
-        | RowQuestion::Delta { kind, .. }
-        | RowQuestion::AllRows { kind, .. } => kind == Kind::Member,
-        RowQuestion::Members { .. } | RowQuestion::Values { .. } | RowQuestion::Called { .. } => {
-            true
-        }
-        _ => false,
-    }
-}
-
+/// Whether a row of the answer may be a member of a reference set.
 fn needs_members(question: &Question<'_>) -> bool
     ensures { IsTrue result ↔ NeedsMembers (question_of question.now) }
 {
     match question {
-        Question::ForRows(rows) => asks_members(rows),
+        Question::ForRows(rows) => rows.may_have(Kind::Member),
         Question::Added { kind, .. } => *kind == Kind::Member,
         _ => false,
     }

@@ -1,30 +1,22 @@
 -- Lists that a loop makes.
-use Rattle.std.proofs.Common.{◌≡◌, ℕ, zero, suc, ◌+◌, ◌<◌, Bool, true, false, cond, List, [], ◌∷◌, ◌++◌, length, get_or, map, take, drop, refl, sym, ap, ◌∙◌, append-nil, append_assoc}
-use Rattle.std.specs.Prelude.{◌&&◌, insert, flat_map}
-use Rattle.std.specs.List.{filter, take-map, drop-map}
-use Rattle.std.proofs.lemmas.List.{take_more, map-append}
-use Rattle.std.proofs.lemmas.List.Elements.{filter-append}
-use Rattle.std.specs.declared.cmp.Ordering.{Ordering}
-use Rattle.std.proofs.lemmas.Bool.{and_parts}
-use Rattle.history_model.specs.InOrder.{put, in_order}
-use Rattle.plain_history.proofs.Placing.{in_order_push}
+use Rattle.std.proofs.Common.{◌≡◌, ℕ, zero, suc, Bool, true, false, cond, List, [], ◌∷◌, ◌++◌, map, take, refl, sym, ap, ◌∙◌, append-nil, append_assoc}
+use Rattle.std.specs.Prelude.{◌&&◌, flat_map, None}
+use Rattle.std.specs.List.{filter, filter_map, cons_option}
+use Rattle.std.proofs.lemmas.List.Elements.{filter_agree}
+use Rattle.rf2_values.specs.Row.{RowValue}
+use Rattle.history_model.specs.Queries.{is_term, is_term_above, terms, terms_above, search_terms, snapshot}
+use Rattle.plain_history.specs.Private.{if_so}
 
 pub map_take : {X Y : Type 0} (f : X → Y) (n : ℕ) (xs : List X) → map f (take n xs) ≡ take n (map f xs)
 map_take f zero xs = refl
 map_take f (suc n) [] = refl
 map_take f (suc n) (x ∷ xs) = ap (λ ys. f x ∷ ys) (map_take f n xs)
 
-pub map-insert : {X Y : Type 0} (f : X → Y) (xs : List X) (i : ℕ) (x : X) → map f (insert xs i x) ≡ insert (map f xs) i (f x)
-map-insert f xs i x =
-    map-append f (take i xs) (x ∷ drop i xs)
-    ∙ ap (λ ys. ys ++ f x ∷ map f (drop i xs)) (sym (take-map f i xs))
-    ∙ ap (λ ys. take i (map f xs) ++ f x ∷ ys) (sym (drop-map f i xs))
-
 -- what passes, where f is looked at
-pub filter-map : {X Y : Type 0} (f : X → Y) (p : Y → Bool) (xs : List X) → filter p (map f xs) ≡ map f (filter (λ x. p (f x)) xs)
-filter-map f p [] = refl
-filter-map f p (x ∷ xs) =
-    let rest = filter-map f p xs in
+pub filter_of_map : {X Y : Type 0} (f : X → Y) (p : Y → Bool) (xs : List X) → filter p (map f xs) ≡ map f (filter (λ x. p (f x)) xs)
+filter_of_map f p [] = refl
+filter_of_map f p (x ∷ xs) =
+    let rest = filter_of_map f p xs in
     elim (p (f x)) as (λ t. cond t (f x ∷ filter p (map f xs)) (filter p (map f xs)) ≡ map f (cond t (x ∷ filter (λ x. p (f x)) xs) (filter (λ x. p (f x)) xs))) [
       | true ↦ ap (λ ys. f x ∷ ys) rest
       | false ↦ rest
@@ -35,39 +27,21 @@ pub flat_map_push : {X Y : Type 0} (f : X → List Y) (xs : List X) (x : X) → 
 flat_map_push f [] x = append-nil (f x)
 flat_map_push f (y ∷ xs) x = ap (λ ys. f y ++ ys) (flat_map_push f xs x) ∙ sym (append_assoc (f y) (flat_map f xs) (f x))
 
-module _ {X : Type 0} (q p : X → Bool) where
-  -- one element, where both tests hold and where one fails
-  both_of_one : (x : X) (t : Bool) → (q x && p x) ≡ t → filter p (filter q (x ∷ [])) ≡ cond t (x ∷ []) []
-  both_of_one x true e =
-      let b = and_parts (q x) (p x) e in
-      ap (λ r. filter p (cond r (x ∷ []) [])) b.0 ∙ ap (λ r. cond r (x ∷ []) []) b.1
-  both_of_one x false e =
-      elim (q x) as (λ r. (r && p x) ≡ false → filter p (cond r (x ∷ []) []) ≡ []) [ true ↦ λ f. ap (λ s. cond s (x ∷ []) []) f | false ↦ λ f. refl ] e
+-- the ends of what passes
+pub filter_map_if_so : (p : RowValue → Bool) (f : RowValue → ℕ) (rows : List RowValue) → filter_map (λ row. if_so (p row) (f row)) rows ≡ map f (filter p rows)
+filter_map_if_so p f [] = refl
+filter_map_if_so p f (row ∷ rows) =
+    let rest = filter_map_if_so p f rows in
+    elim (p row) as (λ t. cons_option (if_so t (f row)) (filter_map (λ row. if_so (p row) (f row)) rows) ≡ map f (cond t (row ∷ filter p rows) (filter p rows))) [
+      | true ↦ ap (λ ys. f row ∷ ys) rest
+      | false ↦ rest
+    ]
 
-  -- the next element is looked at
-  pub filtered_next : (xs : List X) (i : ℕ) (x : X) (t : Bool) → i < length xs → x ≡ get_or xs i x → (q x && p x) ≡ t → filter p (filter q (take (i + 1) xs)) ≡ filter p (filter q (take i xs)) ++ cond t (x ∷ []) []
-  filtered_next xs i x t lt is e =
-      ap (λ ys. filter p (filter q ys)) (take_more xs i x lt ∙ ap (λ y. take i xs ++ y ∷ []) (sym is))
-      ∙ ap (filter p) (filter-append q (take i xs) (x ∷ []))
-      ∙ filter-append p (filter q (take i xs)) (filter q (x ∷ []))
-      ∙ ap (λ ys. filter p (filter q (take i xs)) ++ ys) (both_of_one x t e)
+-- all descriptions with such terms are those with any id
+also_any : (t : Bool) → (t && true) ≡ t
+also_any true = refl
+also_any false = refl
 
-  pub sorted_next : (cmp : X → X → Ordering) (xs : List X) (i : ℕ) (x : X) → i < length xs → x ≡ get_or xs i x → (q x && p x) ≡ true → in_order cmp (filter p (filter q (take (i + 1) xs))) ≡ put cmp x (in_order cmp (filter p (filter q (take i xs))))
-  sorted_next cmp xs i x lt is e = ap (in_order cmp) (filtered_next xs i x true lt is e) ∙ in_order_push cmp (filter p (filter q (take i xs))) x
-
-  pub sorted_same : (cmp : X → X → Ordering) (xs : List X) (i : ℕ) (x : X) → i < length xs → x ≡ get_or xs i x → (q x && p x) ≡ false → in_order cmp (filter p (filter q (take (i + 1) xs))) ≡ in_order cmp (filter p (filter q (take i xs)))
-  sorted_same cmp xs i x lt is e = ap (in_order cmp) (filtered_next xs i x false lt is e ∙ append-nil (filter p (filter q (take i xs))))
-
-  module _ {Y : Type 0} (cmp : Y → Y → Ordering) (f : X → Y) where
-    -- what passes both tests, in order
-    abbrev pub chosen : List X → List Y
-    chosen xs = in_order cmp (map f (filter p (filter q xs)))
-
-    pub chosen_next : (xs : List X) (i : ℕ) (x : X) → i < length xs → x ≡ get_or xs i x → (q x && p x) ≡ true → chosen (take (i + 1) xs) ≡ put cmp (f x) (chosen (take i xs))
-    chosen_next xs i x lt is e =
-        ap (λ ys. in_order cmp (map f ys)) (filtered_next xs i x true lt is e)
-        ∙ ap (in_order cmp) (map-append f (filter p (filter q (take i xs))) (x ∷ []))
-        ∙ in_order_push cmp (map f (filter p (filter q (take i xs)))) (f x)
-
-    pub chosen_same : (xs : List X) (i : ℕ) (x : X) → i < length xs → x ≡ get_or xs i x → (q x && p x) ≡ false → chosen (take (i + 1) xs) ≡ chosen (take i xs)
-    chosen_same xs i x lt is e = ap (λ ys. in_order cmp (map f ys)) (filtered_next xs i x false lt is e ∙ append-nil (filter p (filter q (take i xs))))
+pub any_terms : (prefix : List ℕ) (date limit : ℕ) (rows : List RowValue) → search_terms prefix date None limit rows ≡ terms prefix date limit rows
+unfolding search_terms terms_above terms
+any_terms prefix date limit rows = ap (take limit) (filter_agree (is_term_above prefix None) (is_term prefix) (λ row. also_any (is_term prefix row)) (snapshot rows date))

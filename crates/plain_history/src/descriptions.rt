@@ -1,13 +1,13 @@
 //! Descriptions by the beginning of their terms.
 
 ghost use Rattle.std.specs.Prelude.{◌≡◌, ◌&&◌, map, IfOk, string_bytes};
+ghost use Rattle.std.specs.List.{filter};
 ghost use Rattle.std.specs.Str.{IsUtf8};
-ghost use Rattle.history_model.specs.Queries.{is_current, folded};
+ghost use Rattle.history_model.specs.Queries.{folded};
 ghost use Rattle.history_model.specs.Queries.{is_term, terms};
-ghost use Rattle.history_model.specs.Queries.{is_term_above, terms_above};
-ghost use Rattle.history_model.specs.Queries.{search_terms};
+ghost use Rattle.history_model.specs.Queries.{is_term_above, search_terms};
 
-use crate::snapshots::{is_above, is_current};
+use crate::snapshots::{is_above, snapshot};
 use caseless::default_case_fold_str;
 use rf2_values::{Body, EffectiveTime, Row};
 use std::alloc::{AllocError, Global};
@@ -38,46 +38,6 @@ fn is_term(alloc: Global, row: &Row, prefix: &str) -> Result<bool, AllocError>
     }
 }
 
-fn is_term_at(
-    alloc: Global,
-    rows: &[Row],
-    date: EffectiveTime,
-    row: &Row,
-    prefix: &str,
-) -> Result<bool, AllocError>
-    ensures { IfOk result (λ answer. answer
-        ≡ (is_current rows.now date row.now && is_term prefix.now row.now)) }
-{
-    if is_current(rows, date, row) {
-        is_term(alloc, row, prefix)
-    } else {
-        Ok(false)
-    }
-}
-
-/// The first `limit` active descriptions at the date whose folded term begins with the folded
-/// prefix.
-pub fn terms<'a>(
-    alloc: Global,
-    rows: &'a [Row],
-    prefix: &str,
-    date: EffectiveTime,
-    limit: u32,
-) -> Result<Vec<&'a Row>, AllocError>
-    // promise: an_answer_is_the_defined_one
-    ensures { IfOk result (λ found. map (λ row. row.now) found.items
-        ≡ terms prefix.now date limit rows.now) }
-{
-    let mut matching = Vec::new(alloc);
-    for row in rows {
-        if is_term_at(alloc, rows, date, row, prefix)? {
-            matching.push(row)?;
-        }
-    }
-    matching.truncate(limit as usize);
-    Ok(matching)
-}
-
 /// Whether the row is such a description, with an id greater than `after`, if that is given.
 fn is_term_above(
     alloc: Global,
@@ -91,40 +51,20 @@ fn is_term_above(
     Ok(is_term && is_above(after, row.id))
 }
 
-fn is_term_above_at(
+/// The rows that are such descriptions.
+fn with_term<'a>(
     alloc: Global,
-    rows: &[Row],
-    date: EffectiveTime,
-    row: &Row,
+    rows: &[&'a Row],
     prefix: &str,
-    after: Option<u128>,
-) -> Result<bool, AllocError>
-    ensures { IfOk result (λ answer. answer
-        ≡ (is_current rows.now date row.now && is_term_above prefix.now after row.now)) }
-{
-    if is_current(rows, date, row) {
-        is_term_above(alloc, row, prefix, after)
-    } else {
-        Ok(false)
-    }
-}
-
-/// The active descriptions at the date whose folded term begins with the folded prefix, with ids
-/// greater than `after`, if that is given.
-fn terms_above<'a>(
-    alloc: Global,
-    rows: &'a [Row],
-    prefix: &str,
-    date: EffectiveTime,
     after: Option<u128>,
 ) -> Result<Vec<&'a Row>, AllocError>
     ensures { IfOk result (λ found. map (λ row. row.now) found.items
-        ≡ terms_above prefix.now date after rows.now) }
+        ≡ filter (is_term_above prefix.now after) (map (λ row. row.now) rows.now)) }
 {
     let mut found = Vec::new(alloc);
     for row in rows {
-        if is_term_above_at(alloc, rows, date, row, prefix, after)? {
-            found.push(row)?;
+        if is_term_above(alloc, *row, prefix, after)? {
+            found.push(*row)?;
         }
     }
     Ok(found)
@@ -132,7 +72,7 @@ fn terms_above<'a>(
 
 /// The first `limit` active descriptions at the date whose folded term begins with the folded
 /// prefix, with ids greater than `after`, if that is given.
-#[tactic(auto, using(crate::proofs::Listed::map_take), unfolding(history_model::specs::Queries::search_terms))]
+#[tactic(auto, using(crate::proofs::Listed::map_take), unfolding(history_model::specs::Queries::terms_above, history_model::specs::Queries::search_terms))]
 pub fn search_terms<'a>(
     alloc: Global,
     rows: &'a [Row],
@@ -145,7 +85,26 @@ pub fn search_terms<'a>(
     ensures { IfOk result (λ found. map (λ row. row.now) found.items
         ≡ search_terms prefix.now date after limit rows.now) }
 {
-    let mut matching = terms_above(alloc, rows, prefix, date, after)?;
-    matching.truncate(limit as usize);
-    Ok(matching)
+    let all = snapshot(alloc, rows, date)?;
+    let mut found = with_term(alloc, &all, prefix, after)?;
+    found.truncate(limit as usize);
+    Ok(found)
+}
+
+/// The first `limit` active descriptions at the date whose folded term begins with the folded
+/// prefix.
+#[tactic(auto, using(crate::proofs::Listed::any_terms))]
+pub fn terms<'a>(
+    alloc: Global,
+    rows: &'a [Row],
+    prefix: &str,
+    date: EffectiveTime,
+    limit: u32,
+) -> Result<Vec<&'a Row>, AllocError>
+    // promise: an_answer_is_the_defined_one
+    ensures { IfOk result (λ found. map (λ row. row.now) found.items
+        ≡ terms prefix.now date limit rows.now) }
+{
+    let found = search_terms(alloc, rows, prefix, date, None, limit)?;
+    Ok(found)
 }

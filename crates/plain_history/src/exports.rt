@@ -2,7 +2,7 @@
 
 ghost use Rattle.std.specs.Prelude.{◌≡◌, ◌&&◌, map, IfOk};
 ghost use Rattle.history_model.specs.KeyOrder.{is_after};
-ghost use Rattle.history_model.specs.Exports.{is_kind_after, all_of_kind, rows_of_kind};
+ghost use Rattle.history_model.specs.Exports.{is_kind_after, rows_of_kind};
 
 use crate::snapshots::is_kind;
 use rf2_values::{Key, Kind, Row};
@@ -24,24 +24,8 @@ fn is_kind_after(row: &Row, kind: Kind, after: Option<Key>) -> bool
     is_kind(row, kind) && is_after(after, row)
 }
 
-/// All rows of a kind with keys greater than `after`, if that is given.
-#[tactic(auto, unfolding(history_model::specs::Exports::all_of_kind))]
-fn all_of_kind(
-    alloc: Global,
-    rows: &[Row],
-    kind: Kind,
-    after: Option<Key>,
-) -> Result<Vec<&Row>, AllocError>
-    ensures { IfOk result
-        (λ found. map (λ row. row.now) found.items ≡ all_of_kind kind after rows.now) }
-{
-    rows.iter()
-        .filter(|row| is_kind_after(row, kind, after))
-        .collect(alloc)
-}
-
-/// The first `limit` of these.
-#[tactic(auto, using(crate::proofs::Listed::map_take), unfolding(history_model::specs::Exports::rows_of_kind))]
+/// The first `limit` rows of a kind with keys greater than `after`, if that is given.
+#[tactic(auto, using(crate::proofs::Listed::map_take), unfolding(history_model::specs::Exports::all_of_kind, history_model::specs::Exports::rows_of_kind))]
 pub fn rows_of_kind(
     alloc: Global,
     rows: &[Row],
@@ -53,7 +37,8 @@ pub fn rows_of_kind(
     ensures { IfOk result
         (λ found. map (λ row. row.now) found.items ≡ rows_of_kind kind after limit rows.now) }
 {
-    let mut found = all_of_kind(alloc, rows, kind, after)?;
-    found.truncate(limit as usize);
-    Ok(found)
+    rows.iter()
+        .filter(|row| is_kind_after(row, kind, after))
+        .take(limit as usize)
+        .collect(alloc)
 }

@@ -2,20 +2,17 @@
 
 ghost use Rattle.std.specs.Prelude.{◌≡◌, ◌&&◌, ◌++◌, nat_lt, length, map, IfOk, OnOk};
 ghost use Rattle.std.specs.List.{filter};
-ghost use Rattle.rf2_values.specs.declared.row.Kind.TheVariants.{Member};
-ghost use Rattle.history_model.specs.InOrder.{put};
-ghost use Rattle.history_model.specs.Private.{IsPlace};
-ghost use Rattle.history_model.specs.Queries.{is_above, is_current, is_about};
-ghost use Rattle.history_model.specs.Queries.{is_member_of, is_member_above, members_above};
-ghost use Rattle.history_model.specs.Queries.{members, component_of, is_value_above, value_cmp};
-ghost use Rattle.history_model.specs.Queries.{values_above, is_among_first, values};
+ghost use Rattle.history_model.specs.Queries.{is_member_of, is_member_above, members};
+ghost use Rattle.history_model.specs.Queries.{component_of, is_value_above, values_above};
+ghost use Rattle.history_model.specs.Queries.{is_among_first, values};
 ghost use Rattle.history_model.specs.Queries.{members_about, with_others, called};
 
-use crate::edges::about;
+use crate::edges::{about, is_about};
+use crate::order::{RowOrder, rows_in_order};
+use crate::relationships;
 use crate::snapshots::{is_above, is_current};
 use rf2_values::{Body, EffectiveTime, Kind, Row, Sctid};
 use std::alloc::{AllocError, Global};
-use std::cmp::Ordering;
 
 /// Whether the row is a member of the reference set.
 fn is_member_of(row: &Row, refset: Sctid) -> bool
@@ -27,50 +24,15 @@ fn is_member_of(row: &Row, refset: Sctid) -> bool
     }
 }
 
-/// Whether the row is a member of the reference set, with an id greater than `after`, if that is
-/// given.
 fn is_member_above(row: &Row, refset: Sctid, after: Option<u128>) -> bool
     ensures { result ≡ is_member_above refset after row.now }
 {
     is_member_of(row, refset) && is_above(after, row.id)
 }
 
-fn is_member_above_at(
-    rows: &[Row],
-    date: EffectiveTime,
-    row: &Row,
-    refset: Sctid,
-    after: Option<u128>,
-) -> bool
-    ensures { result ≡ (is_current rows.now date row.now && is_member_above refset after row.now) }
-{
-    is_current(rows, date, row) && is_member_above(row, refset, after)
-}
-
-/// The members of the reference set at the date, with ids greater than `after`, if that is given.
-#[tactic(auto, unfolding(history_model::specs::Queries::snapshot, history_model::specs::Queries::members_above))]
-fn members_above(
-    alloc: Global,
-    rows: &[Row],
-    refset: Sctid,
-    date: EffectiveTime,
-    after: Option<u128>,
-) -> Result<Vec<&Row>, AllocError>
-    ensures { IfOk result (λ found. map (λ row. row.now) found.items
-        ≡ members_above refset date after rows.now) }
-{
-    let mut found = Vec::new(alloc);
-    for row in rows {
-        if is_member_above_at(rows, date, row, refset, after) {
-            found.push(row)?;
-        }
-    }
-    Ok(found)
-}
-
 /// The first `limit` members of the reference set at the date, with ids greater than `after`, if
 /// that is given.
-#[tactic(auto, using(crate::proofs::Listed::map_take), unfolding(history_model::specs::Queries::members))]
+#[tactic(auto, using(crate::proofs::Listed::map_take), unfolding(history_model::specs::Queries::snapshot, history_model::specs::Queries::members_above, history_model::specs::Queries::members))]
 pub fn members(
     alloc: Global,
     rows: &[Row],
@@ -83,13 +45,15 @@ pub fn members(
     ensures { IfOk result (λ found. map (λ row. row.now) found.items
         ≡ members refset date after limit rows.now) }
 {
-    let mut found = members_above(alloc, rows, refset, date, after)?;
-    found.truncate(limit as usize);
-    Ok(found)
+    rows.iter()
+        .filter(|row| is_current(rows, date, row))
+        .filter(|row| is_member_above(row, refset, after))
+        .take(limit as usize)
+        .collect(alloc)
 }
 
 /// The component that a member refers to.
-fn component_of(row: &Row) -> u64
+pub(crate) fn component_of(row: &Row) -> u64
     ensures { result ≡ component_of row.now }
 {
     match &row.body {
@@ -98,65 +62,12 @@ fn component_of(row: &Row) -> u64
     }
 }
 
-fn is_component_above(row: &Row, after: Option<u64>) -> bool
-    ensures { result ≡ is_above after (component_of row.now) }
-{
-    match after {
-        None => true,
-        Some(after) => after < component_of(row),
-    }
-}
-
 /// Whether the row is an active member of the reference set that refers to a component greater than
 /// `after`, if that is given.
 fn is_value_above(row: &Row, refset: Sctid, after: Option<u64>) -> bool
     ensures { result ≡ is_value_above refset after row.now }
 {
-    row.active && is_member_of(row, refset) && is_component_above(row, after)
-}
-
-fn is_value_above_at(
-    rows: &[Row],
-    date: EffectiveTime,
-    row: &Row,
-    refset: Sctid,
-    after: Option<u64>,
-) -> bool
-    ensures { result ≡ (is_current rows.now date row.now && is_value_above refset after row.now) }
-{
-    is_current(rows, date, row) && is_value_above(row, refset, after)
-}
-
-/// The order by the component that members refer to, then by member.
-fn value_order(a: &Row, b: &Row) -> Ordering
-    ensures { result ≡ value_cmp a.now b.now }
-{
-    (component_of(a), a.id).cmp(&(component_of(b), b.id))
-}
-
-/// The position of a member that ties with this one, or otherwise the one at which this one is to
-/// be inserted.
-fn place_for_value(rows: &[&Row], row: &Row) -> Result<usize, usize>
-    ensures { IsPlace value_cmp row.now (map (λ r. r.now) rows.now) result }
-{
-    for (place, other) in rows.iter().enumerate() {
-        match value_order(row, other) {
-            Ordering::Less => return Err(place),
-            Ordering::Equal => return Ok(place),
-            Ordering::Greater => {}
-        }
-    }
-    Err(rows.len())
-}
-
-fn put_value<'a>(rows: &mut Vec<&'a Row>, row: &'a Row) -> Result<(), AllocError>
-    ensures { OnOk result (map (λ r. r.now) rows.new.items
-        ≡ put value_cmp row.entry.now (map (λ r. r.now) rows.old.items)) }
-{
-    if let Err(place) = place_for_value(rows, row) {
-        rows.insert(place, row)?;
-    }
-    Ok(())
+    row.active && is_member_of(row, refset) && relationships::is_above(after, component_of(row))
 }
 
 /// The active members of the reference set at the date that refer to a component greater than
@@ -172,13 +83,13 @@ fn values_above(
     ensures { IfOk result (λ found. map (λ row. row.now) found.items
         ≡ values_above refset date after rows.now) }
 {
-    let mut found = Vec::new(alloc);
-    for row in rows {
-        if is_value_above_at(rows, date, row, refset, after) {
-            put_value(&mut found, row)?;
-        }
-    }
-    Ok(found)
+    let found: Vec<&Row> = rows
+        .iter()
+        .filter(|row| is_current(rows, date, row))
+        .filter(|row| is_value_above(row, refset, after))
+        .collect(alloc)?;
+    let ordered = rows_in_order(alloc, RowOrder::Component, &found)?;
+    Ok(ordered)
 }
 
 /// How many of the rows refer to a smaller component.
@@ -232,26 +143,8 @@ pub fn values(
     first_with_ties(alloc, &all, limit)
 }
 
-/// Whether the row is an active member of the reference set that refers to the component.
-fn is_member_about(row: &Row, refset: Sctid, id: u128) -> bool
-    ensures { result ≡ (is_about Member id row.now && is_member_of refset row.now.body) }
-{
-    match &row.body {
-        Body::Member(member) => {
-            row.active && u128::from(member.referenced.value()) == id && member.refset == refset
-        }
-        _ => false,
-    }
-}
-
-fn is_member_about_at(rows: &[Row], date: EffectiveTime, row: &Row, refset: Sctid, id: u128) -> bool
-    ensures { result ≡ (is_current rows.now date row.now
-        && (is_about Member id row.now && is_member_of refset row.now.body)) }
-{
-    is_current(rows, date, row) && is_member_about(row, refset, id)
-}
-
 /// The active members of the reference set at the date that refer to the component.
+#[tactic(auto, unfolding(history_model::specs::Queries::snapshot, history_model::specs::Queries::about, history_model::specs::Queries::members_about))]
 fn members_about(
     alloc: Global,
     rows: &[Row],
@@ -262,13 +155,11 @@ fn members_about(
     ensures { IfOk result (λ found. map (λ row. row.now) found.items
         ≡ members_about refset id date rows.now) }
 {
-    let mut found = Vec::new(alloc);
-    for row in rows {
-        if is_member_about_at(rows, date, row, refset, id) {
-            found.push(row)?;
-        }
-    }
-    Ok(found)
+    rows.iter()
+        .filter(|row| is_current(rows, date, row))
+        .filter(|row| is_about(row, Kind::Member, id))
+        .filter(|row| is_member_of(row, refset))
+        .collect(alloc)
 }
 
 /// Adds a row followed by the others, if there are any others.

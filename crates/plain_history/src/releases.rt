@@ -1,15 +1,14 @@
 //! What a pin shows, what is accepted, the rows after a release, and receipts.
 
 ghost use Rattle.std.specs.Prelude.{◌≡◌, ◌↔◌, ◌<◌, ◌≤◌, ◌++◌, All, IsTrue};
-ghost use Rattle.std.specs.Prelude.{length, map, IfOk, OnOk, MatchOption};
-ghost use Rattle.history_model.specs.InOrder.{put};
-ghost use Rattle.history_model.specs.History.{IsConsistent, ReceiptOf, stamped_cmp, after_release};
+ghost use Rattle.std.specs.Prelude.{length, map, IfOk, MatchOption};
+ghost use Rattle.history_model.specs.History.{IsConsistent, ReceiptOf, after_release};
 ghost use Rattle.history_model.specs.History.{rows_at};
 ghost use Rattle.history_model.specs.Brought.{brought_by, IsLatestDay, ImportReceiptOf};
-ghost use Rattle.history_model.specs.Private.{IsPlace};
 ghost use Rattle.plain_history.specs.Private.{Agree, AgreesWithKnown, AgreesWithEach};
 ghost use Rattle.plain_history.specs.Private.{later};
 
+use crate::order::{ByKey, put};
 use history_model::{ImportReceipt, Receipt, StampedRow};
 use rf2_values::{EffectiveTime, Row};
 use std::alloc::{AllocError, Global};
@@ -76,32 +75,6 @@ pub fn accepts(rows: &[StampedRow], release: &[Row]) -> bool
     each_known_agrees(rows) && each_agrees(rows, release)
 }
 
-/// The position of a row with its key, or otherwise the one at which the row is to be inserted.
-fn place_for(rows: &[StampedRow], row: &StampedRow) -> Result<usize, usize>
-    ensures { IsPlace stamped_cmp row.now rows.now result }
-{
-    for (place, other) in rows.iter().enumerate() {
-        if !other.is_below(row) {
-            return if row.is_below(other) {
-                Err(place)
-            } else {
-                Ok(place)
-            };
-        }
-    }
-    Err(rows.len())
-}
-
-/// Inserts a row at its place, unless there is one with its key.
-fn put(rows: &mut Vec<StampedRow>, row: StampedRow) -> Result<(), AllocError>
-    ensures { OnOk result (rows.new.items ≡ put stamped_cmp row rows.old.items) }
-{
-    if let Err(place) = place_for(rows, &row) {
-        rows.insert(place, row)?;
-    }
-    Ok(())
-}
-
 fn copy_of_rows(alloc: Global, rows: &[StampedRow]) -> Result<Vec<StampedRow>, AllocError>
     ensures { IfOk result (λ copy. copy.items ≡ rows.now) }
 {
@@ -128,7 +101,7 @@ pub fn after_release(
     let mut after = copy_of_rows(alloc, rows)?;
     for row in release {
         let row = row.try_clone(alloc)?;
-        put(&mut after, StampedRow { row, import })?;
+        put(&ByKey, &mut after, StampedRow { row, import })?;
     }
     Ok(after)
 }

@@ -6,7 +6,7 @@ ghost use Rattle.std.specs.Option.{option_copied};
 ghost use Rattle.history_model.specs.Queries.{is_kind, is_version_of};
 ghost use Rattle.history_model.specs.Queries.{is_later_version, is_current, snapshot, get};
 ghost use Rattle.history_model.specs.Queries.{versions};
-ghost use Rattle.history_model.specs.Queries.{is_above, is_kind_above, all_above, page};
+ghost use Rattle.history_model.specs.Queries.{is_above, is_kind_above, page};
 
 use rf2_values::{EffectiveTime, Kind, Row};
 use std::alloc::{AllocError, Global};
@@ -53,7 +53,7 @@ pub fn snapshot(alloc: Global, rows: &[Row], date: EffectiveTime) -> Result<Vec<
     ensures { IfOk result (λ found. map (λ row. row.now) found.items ≡ snapshot rows.now date) }
 {
     rows.iter()
-        .filter(|row| is_current(rows, date, row))
+        .filter(|version| is_current(rows, date, version))
         .collect(alloc)
 }
 
@@ -94,41 +94,8 @@ pub(crate) fn is_kind_above(row: &Row, kind: Kind, after: Option<u128>) -> bool
     is_kind(row, kind) && is_above(after, row.id)
 }
 
-fn is_above_at(
-    rows: &[Row],
-    date: EffectiveTime,
-    row: &Row,
-    kind: Kind,
-    after: Option<u128>,
-) -> bool
-    ensures { result ≡ (is_current rows.now date row.now && is_kind_above kind after row.now) }
-{
-    is_current(rows, date, row) && is_kind_above(row, kind, after)
-}
-
-/// The rows of a kind at the date, with ids greater than `after`, if that is given.
-#[tactic(auto, unfolding(history_model::specs::Queries::snapshot, history_model::specs::Queries::all_above))]
-fn all_above(
-    alloc: Global,
-    rows: &[Row],
-    kind: Kind,
-    date: EffectiveTime,
-    after: Option<u128>,
-) -> Result<Vec<&Row>, AllocError>
-    ensures { IfOk result (λ found. map (λ row. row.now) found.items
-        ≡ all_above kind date after rows.now) }
-{
-    let mut found = Vec::new(alloc);
-    for row in rows {
-        if is_above_at(rows, date, row, kind, after) {
-            found.push(row)?;
-        }
-    }
-    Ok(found)
-}
-
 /// The first `limit` rows of a kind at the date, with ids greater than `after`, if that is given.
-#[tactic(auto, using(crate::proofs::Listed::map_take), unfolding(history_model::specs::Queries::page))]
+#[tactic(auto, using(crate::proofs::Listed::map_take), unfolding(history_model::specs::Queries::snapshot, history_model::specs::Queries::all_above, history_model::specs::Queries::page))]
 pub fn page(
     alloc: Global,
     rows: &[Row],
@@ -141,7 +108,9 @@ pub fn page(
     ensures { IfOk result (λ found. map (λ row. row.now) found.items
         ≡ page kind date after limit rows.now) }
 {
-    let mut found = all_above(alloc, rows, kind, date, after)?;
-    found.truncate(limit as usize);
-    Ok(found)
+    rows.iter()
+        .filter(|row| is_current(rows, date, row))
+        .filter(|row| is_kind_above(row, kind, after))
+        .take(limit as usize)
+        .collect(alloc)
 }

@@ -1,2 +1,3 @@
 mod Pages
 mod Orders
+mod AnswerKinds

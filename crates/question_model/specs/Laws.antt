@@ -4,7 +4,7 @@ use Rattle.std.specs.Prelude.{List, [], ◌∷◌, ◌++◌, length, drop}
 use Rattle.std.specs.List.{filter}
 use Rattle.std.specs.Ordering.{nat_cmp}
 use Rattle.rf2_values.specs.declared.row.Kind.TheVariants.{Description}
-use Rattle.rf2_values.specs.Row.{RowValue}
+use Rattle.rf2_values.specs.Row.{RowValue, kind_of}
 use Rattle.history_model.specs.InOrder.{Has, IsAscending, joined}
 use Rattle.history_model.specs.History.{History, IsHistory, row_cmp, after_release, rows_at}
 use Rattle.history_model.specs.Queries.{is_kind, all_above, terms_above, changed_above, members_above}
@@ -18,7 +18,7 @@ use Rattle.question_model.specs.Questions.{RowQuestion, Get, History as AskHisto
 use Rattle.question_model.specs.Questions.{Replaces, About, Timeline, Page, Delta, Members, Values, Called}
 use Rattle.question_model.specs.Questions.{AllRows, Words}
 use Rattle.question_model.specs.Questions.{IdQuestion}
-use Rattle.question_model.specs.Wanted.{rows_for, AreIdsFor}
+use Rattle.question_model.specs.Wanted.{rows_for, kinds_for, AreIdsFor}
 
 -- ---- later imports
 
@@ -59,6 +59,13 @@ abbrev pub IdsAscend : Type 0
 IdsAscend = (question : IdQuestion) (rows : List RowValue) (ids : List ℕ)
     → AreIdsFor question rows ids → IsAscending nat_cmp ids
 
+-- ---- the kinds of an answer's rows
+
+-- each row of an answer is of one of the kinds of the question
+abbrev pub RowsAreOfKinds : Type 0
+RowsAreOfKinds = (question : RowQuestion) (rows : List RowValue) (row : RowValue)
+    → Has (rows_for question rows) row → Has (kinds_for question) (kind_of row)
+
 -- ---- one answer
 
 -- a question for identifiers has one answer, and no other
@@ -69,16 +76,24 @@ OneListOfIds = (question : IdQuestion) (rows : List RowValue)
 
 -- ---- pages
 
--- the greatest number of rows in an answer to a question that can go on after the last of them
+-- the greatest number of rows in an answer to a question that can go on after the last of them; each
+-- question is in this list, so that none is left out of the laws of pages by mistake
 abbrev pub limit_of : RowQuestion → Option ℕ
+limit_of (Get kind id date) = None
+limit_of (AskHistory kind id) = None
+limit_of (Terms prefix date limit) = None
 limit_of (Search prefix date after limit) = Some limit
+limit_of (Words date wanted_type offset limit text) = Some limit
+limit_of (Replaced id date) = None
+limit_of (Replaces id date) = None
+limit_of (About kind id date) = None
+limit_of (Timeline kind id) = None
 limit_of (Page kind date after limit) = Some limit
 limit_of (Delta kind from date after limit) = Some limit
 limit_of (Members refset date after limit) = Some limit
 limit_of (Values refset date after limit) = Some limit
+limit_of (Called concept date refset) = None
 limit_of (AllRows kind after limit) = Some limit
-limit_of (Words date wanted_type offset limit text) = Some limit
-limit_of _ = None
 
 -- all rows for such a question, from where it begins on
 abbrev pub all_for : RowQuestion → List RowValue → List RowValue

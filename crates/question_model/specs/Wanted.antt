@@ -1,5 +1,7 @@
 -- What questions ask for. `rows` are the rows that a pin shows.
-use Rattle.std.specs.Prelude.{◌≡◌, ℕ, List, option_to_list}
+use Rattle.std.specs.Prelude.{◌≡◌, ℕ, List, [], ◌∷◌, option_to_list}
+use Rattle.rf2_values.specs.declared.row.Kind.{Kind}
+use Rattle.rf2_values.specs.declared.row.Kind.TheVariants.{Description, Association, Member}
 use Rattle.rf2_values.specs.Row.{RowValue}
 use Rattle.history_model.specs.Queries.{get, versions, page, delta, terms, search_terms, about}
 use Rattle.history_model.specs.Queries.{timeline, replacements, replaces, members, values, called}
@@ -31,6 +33,24 @@ rows_for (Members refset date after limit) rows = members refset date after limi
 rows_for (Values refset date after limit) rows = values refset date after limit rows
 rows_for (Called concept date refset) rows = called concept date refset rows
 rows_for (AllRows kind after limit) rows = rows_of_kind kind after limit rows
+
+-- the kinds that the rows of an answer may have
+abbrev pub kinds_for : RowQuestion → List Kind
+kinds_for (Get kind id date) = kind ∷ []
+kinds_for (History kind id) = kind ∷ []
+kinds_for (Terms prefix date limit) = Description ∷ []
+kinds_for (Search prefix date after limit) = Description ∷ []
+kinds_for (Words date wanted_type offset limit text) = Description ∷ []
+kinds_for (Replaced id date) = Association ∷ []
+kinds_for (Replaces id date) = Association ∷ []
+kinds_for (About kind id date) = kind ∷ []
+kinds_for (Timeline kind id) = kind ∷ []
+kinds_for (Page kind date after limit) = kind ∷ []
+kinds_for (Delta kind from date after limit) = kind ∷ []
+kinds_for (Members refset date after limit) = Member ∷ []
+kinds_for (Values refset date after limit) = Member ∷ []
+kinds_for (Called concept date refset) = Description ∷ Member ∷ []
+kinds_for (AllRows kind after limit) = kind ∷ []
 
 -- the identifiers that a question asks for
 abbrev pub AreIdsFor : IdQuestion → List RowValue → List ℕ → Type 0

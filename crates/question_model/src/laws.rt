@@ -1,7 +1,7 @@
 //! Laws of the questions, each the contract of a function that does nothing.
 
 ghost use Rattle.question_model.specs.Laws.{RowsStay, IdsStay, RowsAscend, IdsAscend};
-ghost use Rattle.question_model.specs.Laws.{OneListOfIds};
+ghost use Rattle.question_model.specs.Laws.{OneListOfIds, RowsAreOfKinds};
 ghost use Rattle.question_model.specs.Laws.{PageAndTheRest, ShortPageIsLast, PagesAreAll, PagesEnd};
 
 /// The rows that a question asks for at a pin aren't changed by later imports.
@@ -26,6 +26,13 @@ pub fn rows_ascend()
 pub fn ids_ascend()
     // promise: nothing_is_left_out_of_an_answer
     ensures { IdsAscend }
+{}
+
+/// Each row of an answer is of one of the kinds of the question: so an answer has members only to a
+/// question that needs them.
+pub fn rows_are_of_kinds()
+    // promise: members_need_layout_3
+    ensures { RowsAreOfKinds }
 {}
 
 /// A question for identifiers has one answer, and no other.

@@ -1,5 +1,10 @@
 //! The questions, by what they are answered with.
 
+ghost use Rattle.std.specs.Prelude.{◌↔◌, IsTrue};
+ghost use Rattle.history_model.specs.InOrder.{Has};
+ghost use Rattle.question_model.specs.Questions.{row_question_of};
+ghost use Rattle.question_model.specs.Wanted.{kinds_for};
+
 use rf2_values::{EffectiveTime, Key, Kind, Sctid};
 
 /// A question for rows, among those that a pin shows.
@@ -113,6 +118,31 @@ pub enum RowQuestion<'a> {
         after: Option<Key>,
         limit: u32,
     },
+}
+
+impl RowQuestion<'_> {
+    /// Whether a row of the answer may be of this kind.
+    pub fn may_have(&self, kind: Kind) -> bool
+        ensures { IsTrue result ↔ Has (kinds_for (row_question_of self.now)) kind }
+    {
+        match *self {
+            RowQuestion::Get { kind: own, .. }
+            | RowQuestion::History { kind: own, .. }
+            | RowQuestion::About { kind: own, .. }
+            | RowQuestion::Timeline { kind: own, .. }
+            | RowQuestion::Page { kind: own, .. }
+            | RowQuestion::Delta { kind: own, .. }
+            | RowQuestion::AllRows { kind: own, .. } => own == kind,
+            RowQuestion::Terms { .. } | RowQuestion::Search { .. } | RowQuestion::Words { .. } => {
+                kind == Kind::Description
+            }
+            RowQuestion::Replaced { .. } | RowQuestion::Replaces { .. } => {
+                kind == Kind::Association
+            }
+            RowQuestion::Members { .. } | RowQuestion::Values { .. } => kind == Kind::Member,
+            RowQuestion::Called { .. } => kind == Kind::Description || kind == Kind::Member,
+        }
+    }
 }
 
 /// A question for identifiers at a date, ascending, among the rows that a pin shows.

@@ -1,19 +1,18 @@
-use Rattle.std.proofs.Common.{map, ap, sym, ◌∙◌}
-use Rattle.history_model.specs.InOrder.{put}
-use Rattle.history_model.specs.Queries.{is_current, is_value_above, value_cmp}
-use Rattle.plain_history.proofs.Listed.{sorted_next, sorted_same}
+use Rattle.std.proofs.Common.{rules, tests, map, ap, ◌∙◌}
+use Rattle.std.specs.Prelude.{Ok}
+use Rattle.std.proofs.lemmas.Iterator.{YieldsList-from_slice}
+use Rattle.std.proofs.lemmas.Iterator.Consumers.{YieldsList-from_filter, YieldsList-at, map_from_collect}
+use Rattle.history_model.specs.InOrder.{in_order}
+use Rattle.history_model.specs.Queries.{is_current, is_value_above, value_cmp, snapshot, values_above}
 use Rattle.plain_history.proofs.membership.values_above.Goals as goal
-use Rattle.plain_history.proofs.membership.values_above.Goals.{then-is_value_above_at+in_ok-put_value, else-is_value_above_at}
 
-pub loop-row-preserved : goal.loop-row-preserved
-loop-row-preserved c =
+pub returns : goal.returns
+unfolding values_above snapshot
+returns c =
     let a = c.args in
-    elim c.if-is_value_above_at.branch [
-      | then-is_value_above_at+in_ok-put_value w ↦ ap (λ v. map (λ r. r.now) v.items) w.found-is
-          ∙ w.in_ok-put_value.ensures
-          ∙ ap (put value_cmp c.row-item.result) c.loop-row.invariant
-          ∙ sym (sorted_next (is_current a.rows.now a.date) (is_value_above a.refset a.after) value_cmp a.rows.now c.loop-row.row-index c.row-item.result c.loop-row-test.true c.row-item.is (sym c.is_value_above_at.ensures ∙ w.if-is_value_above_at.true))
-      | else-is_value_above_at w ↦ ap (λ v. map (λ r. r.now) v.items) w.found-is
-          ∙ c.loop-row.invariant
-          ∙ sym (sorted_same (is_current a.rows.now a.date) (is_value_above a.refset a.after) value_cmp a.rows.now c.loop-row.row-index c.row-item.result c.loop-row-test.true c.row-item.is (sym c.is_value_above_at.ensures ∙ w.if-is_value_above_at.false))
-    ]
+    c.in_ok-ordered.ensures
+    ∙ ap (in_order value_cmp) (ap (map (λ r. r.now)) c.deref.ensures.value
+    ∙ map_from_collect {E = Unit {0}} (Ok c.in_ok-found.found) c.in_ok-found.ensures.ran
+    (YieldsList-from_filter _ (is_value_above a.refset a.after) (YieldsList-at c.filter-2.ensures.source
+    (YieldsList-from_filter _ (is_current a.rows.now a.date) (YieldsList-from_slice a.rows.now (cc)) c.filter.ensures.closure (λ x r q k. search (rules, tests))))
+    c.filter-2.ensures.closure (λ x r q k. search (rules, tests))))
