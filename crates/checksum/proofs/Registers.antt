@@ -225,6 +225,31 @@ fold_four bs r i small there =
     ∙ fold_more bs r3 (i + 3) (i + 4) (omega (arith, there)) (omega arith)
     ∙ ap (λ (x : ℕ). fold with_byte x (drop (i + 4) bs)) (four_taken r (slice_index_or bs i 0) (slice_index_or bs (i + 1) 0) (slice_index_or bs (i + 2) 0) (slice_index_or bs (i + 3) 0) (small i) (small (i + 1)) (small (i + 2)))
 
+-- two bytes at the beginning of a list
+two_taken : (r b0 b1 : ℕ) → b0 < 256 → b1 < 256 → with_byte (with_byte r b0) b1 ≡ shifted_by 16 (bit_xor r (word b0 b1 0 0))
+two_taken r b0 b1 small0 small1 =
+    let x1 = bit_xor r b0 in
+    let t0 : with_byte r b0 ≡ shifted_by 8 x1 = ap (λ (x : ℕ). with_byte x b0) (sym (place_0 r)) ∙ taken_behind 0 r b0 b0 (place_0 b0) in
+    let none : bit_xor (0 * 2 ^ 16) (0 * 2 ^ 24) ≡ 0 = xor_self 0 in
+    let second : bit_xor (b1 * 2 ^ 8) (bit_xor (0 * 2 ^ 16) (0 * 2 ^ 24)) ≡ b1 * 2 ^ 8 = ap (bit_xor (b1 * 2 ^ 8)) none ∙ xor_zero_r (b1 * 2 ^ 8) in
+    ap (λ (x : ℕ). with_byte x b1) t0
+    ∙ taken_behind 8 x1 b1 (b1 * 2 ^ 8) (place_1 b1)
+    ∙ ap (shifted_by 16)
+    (xor_assoc r b0 (b1 * 2 ^ 8)
+    ∙ ap (λ (x : ℕ). bit_xor r (bit_xor b0 x)) (sym second)
+    ∙ ap (bit_xor r) (sym (four_apart b0 b1 0 0 small0 small1 (omega arith))))
+
+pub fold_two : (bs : List ℕ) (r : ℕ) → ((j : ℕ) → slice_index_or bs j 0 < 256) → 2 ≤ length bs → fold with_byte r bs ≡ fold with_byte (shifted_by 16 (bit_xor r (word (slice_index_or bs 0 0) (slice_index_or bs 1 0) 0 0))) (drop 2 bs)
+fold_two bs r small there =
+    let r1 = with_byte r (slice_index_or bs 0 0) in
+    fold_more bs r 0 1 (omega (arith, there)) (omega arith)
+    ∙ fold_more bs r1 1 2 (omega (arith, there)) (omega arith)
+    ∙ ap (λ (x : ℕ). fold with_byte x (drop 2 bs)) (two_taken r (slice_index_or bs 0 0) (slice_index_or bs 1 0) (small 0) (small 1))
+
+-- two words, one after the other
+pub two_words : (a b : ℕ) → shifted_by 32 (bit_xor (shifted_by 32 a) b) ≡ bit_xor (shifted_by 64 a) (shifted_by 32 b)
+two_words a b = simp (shifted_by-xor, shifted_more, xor_assoc) refl
+
 -- four words, one after the other
 pub four_words : (a b c d : ℕ) → shifted_by 32 (bit_xor (shifted_by 32 (bit_xor (shifted_by 32 (bit_xor (shifted_by 32 a) b)) c)) d) ≡ bit_xor (shifted_by 128 a) (bit_xor (shifted_by 96 b) (bit_xor (shifted_by 64 c) (shifted_by 32 d)))
 four_words a b c d = simp (shifted_by-xor, shifted_more, xor_assoc) refl

@@ -28,6 +28,24 @@ fn after_four(register: u32, bytes: [u8; 4]) -> u32
     after_few_zeros(register ^ u32::from_le_bytes(bytes), 4)
 }
 
+/// The register after two more bytes.
+fn after_two(register: u32, bytes: [u8; 2]) -> u32
+    ensures { result ≡ fold with_byte register bytes }
+{
+    let [b0, b1] = bytes;
+    after_few_zeros(register ^ u32::from_le_bytes([b0, b1, 0, 0]), 2)
+}
+
+/// The register after eight more bytes. The last four don't depend on the register.
+fn after_eight(register: u32, bytes: [u8; 8]) -> u32
+    ensures { result ≡ fold with_byte register bytes }
+{
+    let [b0, b1, b2, b3, b4, b5, b6, b7] = bytes;
+    let w0 = u32::from_le_bytes([b0, b1, b2, b3]);
+    let w1 = u32::from_le_bytes([b4, b5, b6, b7]);
+    after_few_zeros(register ^ w0, 8) ^ after_few_zeros(w1, 4)
+}
+
 /// The register after sixteen more bytes. The last twelve don't depend on the register.
 fn after_sixteen(register: u32, bytes: [u8; 16]) -> u32
     ensures { result ≡ fold with_byte register bytes }
@@ -58,20 +76,41 @@ fn after_sixteen(register: u32, bytes: [u8; 16]) -> u32
         ^ (after_few_zeros(w1, 12) ^ (after_few_zeros(w2, 8) ^ after_few_zeros(w3, 4)))
 }
 
-/// The register after bytes, which are taken in four at a time, and the last ones singly.
-fn after_few(register: u32, bytes: &[u8]) -> u32
+/// The register after fewer than four bytes, or after more, which are taken in two at a time.
+fn after_pairs(register: u32, bytes: &[u8]) -> u32
     ensures { result ≡ fold with_byte register bytes.now }
 {
     let mut reached = register;
     let mut rest = bytes;
-    while let Some((four, behind)) = rest.split_first_chunk::<4>() {
-        reached = after_four(reached, *four);
+    while let Some((two, behind)) = rest.split_first_chunk::<2>() {
+        reached = after_two(reached, *two);
         rest = behind;
     }
-    for byte in rest {
-        reached = after_byte(reached, *byte);
+    match rest.first() {
+        Some(byte) => after_byte(reached, *byte),
+        None => reached,
     }
-    reached
+}
+
+/// The register after fewer than eight bytes, or after more.
+fn after_rest(register: u32, bytes: &[u8]) -> u32
+    ensures { result ≡ fold with_byte register bytes.now }
+{
+    match bytes.split_first_chunk::<4>() {
+        Some((four, rest)) => after_pairs(after_four(register, *four), rest),
+        None => after_pairs(register, bytes),
+    }
+}
+
+/// The register after fewer than sixteen bytes, or after more: the steps depend on one another, and
+/// so there are few.
+fn after_few(register: u32, bytes: &[u8]) -> u32
+    ensures { result ≡ fold with_byte register bytes.now }
+{
+    match bytes.split_first_chunk::<8>() {
+        Some((eight, rest)) => after_rest(after_eight(register, *eight), rest),
+        None => after_rest(register, bytes),
+    }
 }
 
 /// The register after these bytes.
