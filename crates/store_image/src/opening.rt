@@ -13,6 +13,7 @@ ghost use Rattle.store_image.specs.Images.{OtherIsWhole};
 ghost use Rattle.store_image.specs.OnDisk.{HasStore, IsOnDisk};
 ghost use Rattle.store_image.specs.Answers.{IsNotOpened, IsSynced, CountsLoading};
 ghost use Rattle.store_image.specs.Asked.{StopsAt, AsksWithin};
+ghost use Rattle.store_image.specs.Listed.{IsListedIn, IsOfListing};
 
 use crate::builder::SegmentBuilder;
 use crate::fault::{Damage, LoadFault};
@@ -112,6 +113,47 @@ pub fn load<D: Disk, B: SegmentBuilder>(
         slot: current.slot,
         directory,
         segments,
+    })
+}
+
+/// What a disk lists as a store.
+#[derive(Drop)]
+pub struct Listing {
+    /// The current slot.
+    pub slot: Slot,
+    /// The directory that its content lists.
+    pub directory: Directory,
+}
+
+/// Reads which segments the store on a disk has, and nothing of these. Makes no sync, so a crash
+/// may still leave another directory.
+pub fn read_listing<D: Disk>(alloc: Global, disk: &mut D) -> Result<Listing, LoadFault>
+    // The reason why nothing is listed is one for which nothing is loaded.
+    ensures exact { (D.view disk.old).is_honest
+        → MatchResult result
+        (λ l. IsListedIn l.slot l.directory (D.view disk.old).moments.state.now)
+        (λ e. IsNotOpened e (D.view disk.old).moments.state.now) }
+    // On every disk, it isn't a fault of segments.
+    ensures refused { IfErr result IsOfListing }
+    ensures moments { (D.view disk.old).is_honest
+        → (D.view disk.new).moments ≡ (D.view disk.old).moments }
+    // Whatever the result: it requests a byte at least, that of a gate, and no more bytes than the
+    // slots have. Besides its reads it asks for the length at most once.
+    ensures looks { raised_by (D.view disk.old).bytes_read 1 ≤ (D.view disk.new).bytes_read }
+    ensures meters { Calls (CountsLoading result) (AtMost slots_read) (AtMost 1)
+        (D.view disk.old) (D.view disk.new) }
+    // If no gate is open, it only made reads.
+    ensures no_store { IfErr result
+        (λ e. e ≡ faults.NotAStore
+        → (D.view disk.new).other_calls ≡ (D.view disk.old).other_calls) }
+{
+    let mut content = [0; 4096];
+    let current = read_current(disk, &mut content)?;
+    let directory = Directory::decode(alloc, &content)?;
+    check_other(disk, current.slot, &directory)?;
+    Ok(Listing {
+        slot: current.slot,
+        directory,
     })
 }
 
