@@ -14,6 +14,7 @@ pub mod Contradicting
 pub mod Written
 pub mod Meters
 pub mod MergeAnswers
+pub mod Attaching
 pub mod Refusals
 pub mod Laws
 pub mod Private

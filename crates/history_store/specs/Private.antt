@@ -1,6 +1,7 @@
 -- Definitions for this crate's private functions. No public clause cites them.
 pub mod Reading
 pub mod Beginning
+pub mod Attaching
 pub mod Publishing
 pub mod StoreValue
 pub mod Prepared

@@ -5,6 +5,8 @@
 //! place of each row. Rows are read from their places through a cache of blocks.
 #![tactic(auto)]
 
+mod attached;
+mod attaching;
 mod beginning;
 mod brought;
 mod checking;
@@ -28,6 +30,8 @@ mod stepping;
 mod store;
 mod taken_blocks;
 
+pub use attached::AttachedImport;
+pub use attaching::{AttachFault, NotPrepared};
 pub use directory::Layout;
 pub use history_model::{ImportReceipt, Receipt};
 pub use question_model::{IdQuestion, RowQuestion};

@@ -1,25 +1,19 @@
 -- What an opening asks a disk for.
 use Rattle.std.proofs.Common.{◌≡◌, ◌⊎◌, inl, inr, ℕ, ◌+◌, ◌<◌, ◌≤◌, List, [], length, get_or, take, drop, refl, sym, ap, subst, arith, length-take}
 use Rattle.std.proofs.lemmas.List.{append-nil, take-append-drop}
-use Rattle.blocks.specs.declared.slots.Current.{Current}
-use Rattle.blocks.specs.declared.slots.SlotFault.{SlotFault}
-use Rattle.blocks.specs.declared.slots.SlotFault.TheVariants as slots
-use Rattle.blocks.specs.Slots.{IsCurrentWith, slots_read}
+use Rattle.blocks.specs.declared.slots.Slot.{Slot}
+use Rattle.blocks.specs.Slots.{slots_read}
 use Rattle.directory.specs.declared.entry.Entry.{Entry}
 use Rattle.directory.specs.declared.layout.Layout.TheVariants as layouts
-use Rattle.directory.specs.declared.listing.DirectoryFault.{DirectoryFault}
-use Rattle.directory.specs.declared.listing.DirectoryFault.TheVariants as directories
 use Rattle.directory.specs.Listings.{DirectoryValue, IsListing, empty_listing}
-use Rattle.directory.specs.Content.{Lists}
 use Rattle.store_image.specs.declared.fault.Damage.TheVariants as damages
 use Rattle.store_image.specs.declared.fault.LoadFault.{LoadFault}
 use Rattle.store_image.specs.declared.fault.LoadFault.TheVariants as loading
 use Rattle.store_image.specs.declared.fault.RowsFault.{RowsFault}
 use Rattle.store_image.specs.declared.fault.RowsFault.TheVariants as faults
 use Rattle.store_image.specs.Kept.{bytes_listed}
-use Rattle.store_image.specs.Images.{OtherIsWhole}
 use Rattle.store_image.specs.Damage.{HasDirectory}
-use Rattle.store_image.specs.Answers.{of_slot, of_directory}
+use Rattle.store_image.specs.Listed.{IsListedIn, IsOfListing}
 use Rattle.store_image.specs.Asked.{MayBeListed, AreGoneOver, StopsAt, AsksWithin}
 use Rattle.store_image.specs.Private.Damage.{in_segment, StopsIn}
 use Rattle.store_image.proofs.Segments.{bytes_more}
@@ -62,19 +56,15 @@ none_over e bytes_before bytes calls_before calls none read made = record { entr
 pub stops_at_once : (bytes_before bytes calls_before calls : ℕ) → bytes ≤ bytes_before + slots_read → calls ≤ calls_before + 2 → StopsAt loading.DiskFault bytes_before bytes calls_before calls
 stops_at_once bytes_before bytes calls_before calls read made = none_over loading.DiskFault bytes_before bytes calls_before calls none_listed read made
 
-pub stops_at_slots : (e : SlotFault) (bytes_before bytes calls_before calls : ℕ) → bytes ≤ bytes_before + slots_read → calls ≤ calls_before + 2 → StopsAt (of_slot e) bytes_before bytes calls_before calls
-stops_at_slots slots.DiskFault bytes_before bytes calls_before calls read made = none_over _ bytes_before bytes calls_before calls none_listed read made
-stops_at_slots slots.NoSlot bytes_before bytes calls_before calls read made = none_over _ bytes_before bytes calls_before calls refl read made
-stops_at_slots slots.ShortSlot bytes_before bytes calls_before calls read made = none_over _ bytes_before bytes calls_before calls refl read made
-stops_at_slots slots.EqualEpochs bytes_before bytes calls_before calls read made = none_over _ bytes_before bytes calls_before calls refl read made
-
-pub stops_at_directory : (e : DirectoryFault) (bytes_before bytes calls_before calls : ℕ) → bytes ≤ bytes_before + slots_read → calls ≤ calls_before + 2 → StopsAt (of_directory e) bytes_before bytes calls_before calls
-stops_at_directory directories.OutOfMemory bytes_before bytes calls_before calls read made = none_over _ bytes_before bytes calls_before calls none_listed read made
-stops_at_directory directories.BadDirectory bytes_before bytes calls_before calls read made = none_over _ bytes_before bytes calls_before calls refl read made
-
-pub stops_at_other : (e : LoadFault) (bytes_before bytes calls_before calls : ℕ) → (e ≡ loading.DiskFault) ⊎ (e ≡ loading.Damaged damages.Directory) → bytes ≤ bytes_before + slots_read → calls ≤ calls_before + 2 → StopsAt e bytes_before bytes calls_before calls
-stops_at_other e bytes_before bytes calls_before calls (inl is) read made = none_over e bytes_before bytes calls_before calls (subst (λ (f : LoadFault). AreGoneOver f []) (sym is) none_listed) read made
-stops_at_other e bytes_before bytes calls_before calls (inr is) read made = none_over e bytes_before bytes calls_before calls (subst (λ (f : LoadFault). AreGoneOver f []) (sym is) refl) read made
+pub stops_at_listing : (e : LoadFault) (bytes_before bytes calls_before calls : ℕ) → IsOfListing e → bytes ≤ bytes_before + slots_read → calls ≤ calls_before + 2 → StopsAt e bytes_before bytes calls_before calls
+stops_at_listing loading.OutOfMemory bytes_before bytes calls_before calls is read made = none_over _ bytes_before bytes calls_before calls none_listed read made
+stops_at_listing loading.DiskFault bytes_before bytes calls_before calls is read made = none_over _ bytes_before bytes calls_before calls none_listed read made
+stops_at_listing loading.NotAStore bytes_before bytes calls_before calls is read made = none_over _ bytes_before bytes calls_before calls refl read made
+stops_at_listing (loading.Damaged damages.Slots) bytes_before bytes calls_before calls is read made = none_over _ bytes_before bytes calls_before calls refl read made
+stops_at_listing (loading.Damaged damages.Directory) bytes_before bytes calls_before calls is read made = none_over _ bytes_before bytes calls_before calls refl read made
+stops_at_listing (loading.Damaged (damages.Segment number)) bytes_before bytes calls_before calls is read made = absurd is
+stops_at_listing (loading.Damaged damages.SharedKey) bytes_before bytes calls_before calls is read made = absurd is
+stops_at_listing (loading.Damaged damages.Kind) bytes_before bytes calls_before calls is read made = absurd is
 
 -- ---- with a directory
 
@@ -110,11 +100,9 @@ module _ (d : DirectoryValue) (is : IsListing d) (bytes_before bytes calls_befor
 pub within_slots : (file : List ℕ) (before after : ℕ) → after ≤ before + slots_read → AsksWithin file before after
 within_slots file before after read = record { listed = λ d has. omega (arith, read); none = λ none. read }
 
-pub within_listed : (file into : List ℕ) (current : Current) (d : DirectoryValue) (before after : ℕ) → IsCurrentWith current into file → Lists into d → OtherIsWhole d.layout d.epoch current.slot file → after ≤ before + slots_read + bytes_listed d.entries → AsksWithin file before after
-within_listed file into current d before after is lists whole read =
-    let has : HasDirectory d file = record { current = current; content = into; slot = is; lists_it = lists; other_is_whole = whole } in
-    record {
-      listed = λ e other.
-          let same = ap (λ (l : DirectoryValue). bytes_listed l.entries) (one_directory file d e has other) in omega (arith, read, same);
-      none = λ none. absurd (none d has);
-    }
+pub within_listed : (file : List ℕ) (slot : Slot) (d : DirectoryValue) (before after : ℕ) → IsListedIn slot d file → after ≤ before + slots_read + bytes_listed d.entries → AsksWithin file before after
+within_listed file slot d before after listing read = record {
+  listed = λ e other.
+      let same = ap (λ (l : DirectoryValue). bytes_listed l.entries) (one_directory file d e listing.has other) in omega (arith, read, same);
+  none = λ none. absurd (none d listing.has);
+}

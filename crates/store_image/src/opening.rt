@@ -100,17 +100,14 @@ pub fn load<D: Disk, B: SegmentBuilder>(
         (D.view disk.old).bytes_read (D.view disk.new).bytes_read }
 {
     disk.sync()?;
-    let mut content = [0; 4096];
-    let current = read_current(disk, &mut content)?;
-    let directory = Directory::decode(alloc, &content)?;
-    check_other(disk, current.slot, &directory)?;
+    let Listing { slot, directory } = read_listing(alloc, disk)?;
     let (entries, imports) = (directory.entries(), directory.imports());
     let segments = read_segments::<D, B>(alloc, disk, entries, imports, told)?;
     if !all_have_kinds::<B>(directory.layout(), segments.as_slice()) {
         return Err(LoadFault::Damaged(Damage::Kind));
     }
     Ok(Loaded {
-        slot: current.slot,
+        slot,
         directory,
         segments,
     })

@@ -1,0 +1,46 @@
+//! Attached imports: what is kept in memory of one.
+
+ghost use Rattle.std.specs.Prelude.{◌≡◌, ◌≤◌};
+
+use directory::Entry;
+use segment_index::StoreIndex;
+use std::snapshot::Snapshot;
+
+/// An import whose rows another process prepared in a store of their own. It is kept beside the
+/// store that it will be an import of: its rows are taken by steps, and the store has none of them
+/// until it is published.
+#[derive(Drop)]
+pub struct AttachedImport {
+    /// How many imports the store had when it was attached.
+    pub(crate) imports: u32,
+    /// The rows that the store had then, which only clauses can see.
+    pub(crate) known: Snapshot<StoreIndex>,
+    /// The segment that the prepared store has, if it has rows.
+    pub(crate) segment: Option<AttachedSegment>,
+}
+
+/// The segment of a prepared store, and where its rows go.
+#[derive(Clone, Copy)]
+pub(crate) struct AttachedSegment {
+    /// The segment's entry in the directory of the prepared store.
+    pub(crate) source: Entry,
+    /// The first block of the new segment, from which there is room for all rows.
+    pub(crate) first: u32,
+    /// How many rows were taken.
+    pub(crate) taken: u32,
+    ghost within: { taken ≤ source.rows },
+}
+
+impl AttachedImport {
+    ghost use Rattle.history_store.specs.Attaching.{rows_left};
+
+    /// How many rows of the prepared store are left to take.
+    pub fn rows_left(&self) -> u32
+        ensures { result ≡ rows_left self.now }
+    {
+        match &self.segment {
+            None => 0,
+            Some(segment) => segment.source.rows - segment.taken,
+        }
+    }
+}
