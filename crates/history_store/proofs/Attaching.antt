@@ -2,21 +2,33 @@
 use Rattle.std.specs.Prelude.{Option, Some, None, Ok, Err, slice_get, sum_by}
 use Rattle.std.proofs.Common.{◌≡◌, ◌⊎◌, inl, inr, ℕ, ◌≤◌, List, [], ◌∷◌, length, refl, sym, ap, subst, ◌∙◌, arith}
 use Rattle.rf2_values.specs.Row.{RowValue}
-use Rattle.history_model.specs.History.{History, stamped}
+use Rattle.std.specs.List.{AllByRecursion}
+use Rattle.blocks.specs.Extents.{block_count}
+use Rattle.history_model.specs.History.{stamped}
+use Rattle.history_model.specs.Lists.{listed}
 use Rattle.history_model.proofs.Receipts.{length-stamped}
 use Rattle.directory.specs.declared.entry.Entry.{Entry}
+use Rattle.directory.specs.declared.layout.Layout.{Layout}
 use Rattle.directory.specs.declared.layout.Layout.TheVariants as layouts
-use Rattle.directory.specs.Listings.{DirectoryValue}
+use Rattle.directory.specs.Listings.{DirectoryValue, HasForm, IsEntry, IsListing}
+use Rattle.directory.specs.Places.{extent_of}
+use Rattle.directory.specs.Fit.{fit}
+use Rattle.store_image.specs.declared.fault.LoadFault.{LoadFault}
 use Rattle.store_image.specs.declared.fault.LoadFault.TheVariants as loading
-use Rattle.store_image.specs.Answers.{IsNotOpened}
+use Rattle.store_image.specs.Answers.{IsNotOpened, CountsLoading}
 use Rattle.store_image.specs.Damage.{HasDirectory}
 use Rattle.store_image.proofs.Damaged.{one_directory}
+use Rattle.history_store.specs.declared.attached.AttachedImport.{AttachedImport}
 use Rattle.history_store.specs.declared.attached.AttachedSegment.{AttachedSegment}
 use Rattle.history_store.specs.declared.attaching.AttachFault.{AttachFault}
+use Rattle.history_store.specs.declared.attaching.AttachFault.TheVariants as faults
 use Rattle.history_store.specs.declared.attaching.NotPrepared.{NotPrepared}
 use Rattle.history_store.specs.declared.attaching.NotPrepared.TheVariants as reasons
 use Rattle.history_store.specs.declared.refusal.Refusal.TheVariants as refusals
-use Rattle.history_store.specs.Attaching.{IsPreparedStore, IsUntaken, WhyNotPrepared, WhyNotAttached, PreparedIsAttached, left_of}
+use Rattle.history_store.specs.Catalog.{Merge, reserved_by}
+use Rattle.history_store.specs.StoreValue.{StoreValue}
+use Rattle.history_store.specs.Attaching.{IsPreparedStore, IsOfOther, HasPrepared, WhyNotPrepared, IsUntaken, IsPlacedFor, IsReserved, MayAttach, IsAttached, WhyNotAttached, CountsUnprepared, PreparedIsAttached, left_of, room_for}
+use Rattle.history_store.specs.Private.Attaching.{IsFitFor, HasNoFit}
 use Rattle.history_store.proofs.Counted.{rows_counted}
 use Rattle.history_store.proofs.Reopened.{represented_is_opened}
 
@@ -80,3 +92,80 @@ prepared_is_attached file rows s (Ok attached) is attaching =
     all_left is.entries attached.segment is.few (subst (λ (o : Option Entry). IsUntaken o attached.segment) source attaching.untaken) ∙ all_rows file rows is
 prepared_is_attached file rows s (Err e) is attaching why same =
     refused file rows is why (subst (λ (f : AttachFault). WhyNotAttached (λ d. HasDirectory d file) (λ fault. IsNotOpened fault file) f s) same attaching).1
+
+-- ---- a disk that has no prepared store
+
+pub other_why : (Lists : DirectoryValue → Type 0) (Unread : LoadFault → Type 0) (why : NotPrepared) (d : DirectoryValue) → Lists d → IsOfOther why d → WhyNotPrepared Lists Unread why
+other_why Lists Unread (reasons.Unread fault) d has other = absurd other
+other_why Lists Unread (reasons.OtherLayout number) d has other = (d, has, other)
+other_why Lists Unread (reasons.OtherImports number) d has other = (d, has, other)
+other_why Lists Unread (reasons.ManySegments number) d has other = (d, has, other)
+
+pub unread_counts : {T : Type 0} (fault : LoadFault) (old new : ℕ) → CountsLoading {T} (Err fault) old new → CountsUnprepared (reasons.Unread fault) old new
+unread_counts loading.OutOfMemory old new counts = counts
+unread_counts loading.DiskFault old new counts = counts
+unread_counts loading.NotAStore old new counts = counts
+unread_counts (loading.Damaged damage) old new counts = counts
+
+pub other_counts : (why : NotPrepared) (d : DirectoryValue) (old new : ℕ) → IsOfOther why d → new ≡ old → CountsUnprepared why old new
+other_counts (reasons.Unread fault) d old new other same = absurd other
+other_counts (reasons.OtherLayout number) d old new other same = same
+other_counts (reasons.OtherImports number) d old new other same = same
+other_counts (reasons.ManySegments number) d old new other same = same
+
+-- ---- where the rows of a prepared store go
+
+untaken : (live : List Entry) (source : Option Entry) (segment : Option AttachedSegment) → IsFitFor live source segment → IsUntaken source segment
+untaken live None None fits = tt
+untaken live None (Some segment) fits = absurd fits
+untaken live (Some source) None fits = absurd fits
+untaken live (Some source) (Some segment) fits = (fits.0, fits.1)
+
+module _ {D : Type 0} (s : StoreValue D) (may : MayAttach s) where
+  placed : (source : Entry) (segment : AttachedSegment) → IsEntry source → HasForm layouts.Three source → IsFitFor s.catalog.entries (Some source) (Some segment) → IsPlacedFor s.catalog segment
+  placed source segment is form fits =
+      let same = sym fits.0 in
+      let place : fit (block_count (extent_of source)) s.catalog.entries (reserved_by s.catalog.merge) ≡ Some segment.first = ap (λ (m : Option Merge). fit (block_count (extent_of source)) s.catalog.entries (reserved_by m)) may.no_merge ∙ fits.2 in
+      record {
+        source = subst IsEntry same is;
+        form = subst (HasForm layouts.Three) same form;
+        place = subst (λ (e : Entry). room_for e s.catalog ≡ Some segment.first) same place;
+      }
+
+  reserved : (entries : List Entry) (source : Option Entry) (segment : Option AttachedSegment) → source ≡ slice_get entries 0 → AllByRecursion IsEntry entries → AllByRecursion (HasForm layouts.Three) entries → IsFitFor s.catalog.entries source segment → IsReserved s.catalog segment
+  reserved entries None None is each forms fits = tt
+  reserved entries None (Some segment) is each forms fits = absurd fits
+  reserved entries (Some source) None is each forms fits = absurd fits
+  reserved [] (Some source) (Some segment) is each forms fits = absurd (cc)
+  reserved (e ∷ entries) (Some source) (Some segment) is each forms fits =
+      let same : e ≡ source = cc in
+      placed source segment (subst IsEntry same each.0) (subst (HasForm layouts.Three) same forms.0) fits
+
+  module _ (Lists : DirectoryValue → Type 0) (Unread : LoadFault → Type 0) (listing : (d : DirectoryValue) → Lists d → IsListing d) where
+    pub is_attached : (source : Option Entry) (attached : AttachedImport) → HasPrepared Lists source → IsFitFor s.catalog.entries source attached.segment → attached.imports ≡ s.history.imports → listed attached.known.value.lists ≡ s.history.rows → IsAttached Lists attached s
+    is_attached source attached has fits imports known =
+        let is = listing has.d has.lists_it in
+        record {
+          may = may;
+          source = source;
+          has = has;
+          untaken = untaken s.catalog.entries source attached.segment fits;
+          belongs = record {
+            layout = may.layout;
+            no_merge = may.no_merge;
+            imports = imports;
+            known = known;
+            reserved = reserved has.d.entries source attached.segment has.source_is is.entries (subst (λ (l : Layout). AllByRecursion (HasForm l) has.d.entries) has.one.layout is.forms) fits;
+          };
+        }
+
+    pub is_full : (source : Option Entry) → HasPrepared Lists source → HasNoFit s.catalog.entries source → WhyNotAttached Lists Unread (faults.Refused refusals.Full) s
+    is_full None has none = absurd none
+    is_full (Some source) has none = (
+      may,
+      record {
+        source = source;
+        has = has;
+        none = ap (λ (m : Option Merge). fit (block_count (extent_of source)) s.catalog.entries (reserved_by m)) may.no_merge ∙ none;
+      },
+    )

@@ -1,5 +1,5 @@
 -- What an opening asks a disk for.
-use Rattle.std.proofs.Common.{◌≡◌, ◌⊎◌, inl, inr, ℕ, ◌+◌, ◌<◌, ◌≤◌, List, [], length, get_or, take, drop, refl, sym, ap, subst, arith, length-take}
+use Rattle.std.proofs.Common.{◌≡◌, ℕ, ◌+◌, ◌<◌, ◌≤◌, List, [], length, get_or, take, drop, refl, sym, ap, arith, length-take}
 use Rattle.std.proofs.lemmas.List.{append-nil, take-append-drop}
 use Rattle.blocks.specs.declared.slots.Slot.{Slot}
 use Rattle.blocks.specs.Slots.{slots_read}
@@ -12,7 +12,6 @@ use Rattle.store_image.specs.declared.fault.LoadFault.TheVariants as loading
 use Rattle.store_image.specs.declared.fault.RowsFault.{RowsFault}
 use Rattle.store_image.specs.declared.fault.RowsFault.TheVariants as faults
 use Rattle.store_image.specs.Kept.{bytes_listed}
-use Rattle.store_image.specs.Damage.{HasDirectory}
 use Rattle.store_image.specs.Listed.{IsListedIn, IsOfListing}
 use Rattle.store_image.specs.Asked.{MayBeListed, AreGoneOver, StopsAt, AsksWithin}
 use Rattle.store_image.specs.Private.Damage.{in_segment, StopsIn}

@@ -11,7 +11,6 @@ use Rattle.history_model.specs.declared.stamped.StampedRow.{StampedRow}
 use Rattle.directory.specs.declared.entry.Entry.{Entry}
 use Rattle.directory.specs.Places.{AreApart, AreBeside, end_block, extent_of, extents_of}
 use Rattle.directory.specs.Listings.{IsEntry}
-use Rattle.segment.specs.Records.{segment_in}
 use Rattle.segment.proofs.SegmentLaws.{length-segment_in}
 use Rattle.store_image.specs.Kept.{IsSegmentOf, AreSegments, pieces_of}
 use Rattle.store_image.proofs.Frames.{IsFree}

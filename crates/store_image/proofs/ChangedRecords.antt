@@ -31,7 +31,6 @@ use Rattle.segment.proofs.Places.{first_record}
 use Rattle.store_image.specs.Pieces.{Holds, HoldsAll}
 use Rattle.store_image.specs.Kept.{AreSegments, pieces_of}
 use Rattle.store_image.specs.Images.{IsStore, Represents}
-use Rattle.store_image.specs.Reading.{IsAt}
 use Rattle.store_image.specs.Damage.{HasDirectory}
 use Rattle.store_image.specs.Changed.{ChangedRecordIsNoStore}
 use Rattle.store_image.proofs.Damaged.{one_directory}

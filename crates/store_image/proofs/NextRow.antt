@@ -1,5 +1,5 @@
 -- The next row of a segment that is read row by row.
-use Rattle.std.proofs.Common.{◌≡◌, ℕ, ◌+◌, List, length, take, drop, subst, sym}
+use Rattle.std.proofs.Common.{◌≡◌, ℕ, ◌+◌, List, length, subst, sym}
 use Rattle.blocks.specs.declared.extent.Extent.{Extent}
 use Rattle.checksum.specs.declared.form.Form.{Form}
 use Rattle.directory.specs.declared.entry.Entry.{Entry}

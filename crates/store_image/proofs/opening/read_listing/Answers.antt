@@ -1,8 +1,6 @@
-use Rattle.std.proofs.Common.{◌≡◌, ℕ, List, refl, ap, subst}
+use Rattle.std.proofs.Common.{ℕ, List, refl, ap}
 use Rattle.std.proofs.lemmas.Result.{err_from_is_err_and}
 use Rattle.disk_model.specs.Disk.{Moments}
-use Rattle.store_image.specs.Images.{OtherIsWhole}
-use Rattle.store_image.specs.Answers.{IsNotOpened}
 use Rattle.store_image.proofs.Opened.{other_found, other_missed}
 use Rattle.store_image.proofs.Damaged.{bad_other}
 use Rattle.store_image.proofs.opening.read_listing.Goals as goal
