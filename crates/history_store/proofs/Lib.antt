@@ -22,7 +22,7 @@ pub mod Apart
 pub mod FreshRows
 pub mod Imported
 pub mod Reopened
-pub mod Attaching
+pub mod PreparedStores
 pub mod ReadRows
 pub mod SteppedMerge
 pub mod SteppedStore

@@ -1,6 +1,6 @@
 -- What is attached of a prepared store.
 use Rattle.std.specs.Prelude.{Option, Some, None, Ok, Err, slice_get, sum_by}
-use Rattle.std.proofs.Common.{◌≡◌, ◌⊎◌, inl, inr, ℕ, ◌≤◌, List, [], ◌∷◌, length, refl, sym, ap, subst, ◌∙◌, arith}
+use Rattle.std.proofs.Common.{◌≡◌, ◌⊎◌, inl, inr, false, ℕ, ◌≤◌, List, [], ◌∷◌, length, refl, sym, ap, subst, ◌∙◌, arith}
 use Rattle.rf2_values.specs.Row.{RowValue}
 use Rattle.std.specs.List.{AllByRecursion}
 use Rattle.blocks.specs.Extents.{block_count}
@@ -15,7 +15,7 @@ use Rattle.directory.specs.Places.{extent_of}
 use Rattle.directory.specs.Fit.{fit}
 use Rattle.store_image.specs.declared.fault.LoadFault.{LoadFault}
 use Rattle.store_image.specs.declared.fault.LoadFault.TheVariants as loading
-use Rattle.store_image.specs.Answers.{IsNotOpened, CountsLoading}
+use Rattle.store_image.specs.Answers.{IsNotOpened}
 use Rattle.store_image.specs.Damage.{HasDirectory}
 use Rattle.store_image.proofs.Damaged.{one_directory}
 use Rattle.history_store.specs.declared.attached.AttachedImport.{AttachedImport}
@@ -27,7 +27,7 @@ use Rattle.history_store.specs.declared.attaching.NotPrepared.TheVariants as rea
 use Rattle.history_store.specs.declared.refusal.Refusal.TheVariants as refusals
 use Rattle.history_store.specs.Catalog.{Merge, reserved_by}
 use Rattle.history_store.specs.StoreValue.{StoreValue}
-use Rattle.history_store.specs.Attaching.{IsPreparedStore, IsOfOther, HasPrepared, WhyNotPrepared, IsUntaken, IsPlacedFor, IsReserved, MayAttach, IsAttached, WhyNotAttached, CountsUnprepared, PreparedIsAttached, left_of, room_for}
+use Rattle.history_store.specs.Attaching.{IsPreparedStore, HasPrepared, WhyNotPrepared, IsUntaken, IsPlacedFor, IsReserved, MayAttach, IsAttached, WhyNotAttached, PreparedIsAttached, left_of, room_for}
 use Rattle.history_store.specs.Private.Attaching.{IsFitFor, HasNoFit}
 use Rattle.history_store.proofs.Counted.{rows_counted}
 use Rattle.history_store.proofs.Reopened.{represented_is_opened}
@@ -90,28 +90,8 @@ pub prepared_is_attached : {D : Type 0} → PreparedIsAttached D
 prepared_is_attached file rows s (Ok attached) is attaching =
     let source = attaching.has.source_is ∙ ap (λ (l : List Entry). slice_get l 0) (same_entries file rows is attaching.has.d attaching.has.lists_it) in
     all_left is.entries attached.segment is.few (subst (λ (o : Option Entry). IsUntaken o attached.segment) source attaching.untaken) ∙ all_rows file rows is
-prepared_is_attached file rows s (Err e) is attaching why same =
-    refused file rows is why (subst (λ (f : AttachFault). WhyNotAttached (λ d. HasDirectory d file) (λ fault. IsNotOpened fault file) f s) same attaching).1
-
--- ---- a disk that has no prepared store
-
-pub other_why : (Lists : DirectoryValue → Type 0) (Unread : LoadFault → Type 0) (why : NotPrepared) (d : DirectoryValue) → Lists d → IsOfOther why d → WhyNotPrepared Lists Unread why
-other_why Lists Unread (reasons.Unread fault) d has other = absurd other
-other_why Lists Unread (reasons.OtherLayout number) d has other = (d, has, other)
-other_why Lists Unread (reasons.OtherImports number) d has other = (d, has, other)
-other_why Lists Unread (reasons.ManySegments number) d has other = (d, has, other)
-
-pub unread_counts : {T : Type 0} (fault : LoadFault) (old new : ℕ) → CountsLoading {T} (Err fault) old new → CountsUnprepared (reasons.Unread fault) old new
-unread_counts loading.OutOfMemory old new counts = counts
-unread_counts loading.DiskFault old new counts = counts
-unread_counts loading.NotAStore old new counts = counts
-unread_counts (loading.Damaged damage) old new counts = counts
-
-pub other_counts : (why : NotPrepared) (d : DirectoryValue) (old new : ℕ) → IsOfOther why d → new ≡ old → CountsUnprepared why old new
-other_counts (reasons.Unread fault) d old new other same = absurd other
-other_counts (reasons.OtherLayout number) d old new other same = same
-other_counts (reasons.OtherImports number) d old new other same = same
-other_counts (reasons.ManySegments number) d old new other same = same
+prepared_is_attached file rows s (Err e) is attaching =
+    λ why same. refused file rows is why (subst (λ (f : AttachFault). WhyNotAttached (λ d. HasDirectory d file) (λ fault. IsNotOpened fault file) f s) same attaching).1
 
 -- ---- where the rows of a prepared store go
 
@@ -120,6 +100,9 @@ untaken live None None fits = tt
 untaken live None (Some segment) fits = absurd fits
 untaken live (Some source) None fits = absurd fits
 untaken live (Some source) (Some segment) fits = (fits.0, fits.1)
+
+pub may_attach : {D : Type 0} (s : StoreValue D) → s.needs_reopen ≡ false → s.catalog.merge ≡ None → s.catalog.layout ≡ layouts.Three → MayAttach s
+may_attach s is_open none layout = record { is_open = is_open; no_merge = none; layout = layout }
 
 module _ {D : Type 0} (s : StoreValue D) (may : MayAttach s) where
   placed : (source : Entry) (segment : AttachedSegment) → IsEntry source → HasForm layouts.Three source → IsFitFor s.catalog.entries (Some source) (Some segment) → IsPlacedFor s.catalog segment
