@@ -24,7 +24,8 @@ use Rattle.segment.proofs.Posting.{with_places_push, record_ends}
 use Rattle.store_image.specs.declared.fault.RowsFault.{RowsFault}
 use Rattle.store_image.specs.declared.fault.RowsFault.TheVariants as faults
 use Rattle.store_image.specs.declared.reading.ReadTo.{ReadTo}
-use Rattle.store_image.specs.Private.Reading.{HasRecord, IsNoRecord, IsLastKey, IsAbove, AreReadTo, BeginsWith, IsNotNext}
+use Rattle.store_image.specs.Reading.{IsLastKey, AreReadTo}
+use Rattle.store_image.specs.Private.Reading.{HasRecord, IsNoRecord, IsAbove, BeginsWith, IsNotNext}
 use Rattle.checksum.specs.Crc32c.{crc32c, continued}
 use Rattle.checksum.proofs.ChecksumLaws.{goes_on as crc_goes_on}
 

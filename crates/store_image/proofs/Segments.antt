@@ -20,8 +20,8 @@ use Rattle.store_image.specs.declared.fault.RowsFault.TheVariants as faults
 use Rattle.store_image.specs.declared.reading.ReadTo.{ReadTo}
 use Rattle.store_image.specs.Pieces.{Holds, HoldsAll}
 use Rattle.store_image.specs.Kept.{IsSegmentOf, AreSegments, bytes_listed, pieces_of}
-use Rattle.store_image.specs.Reading.{AreNumbered, IsAt}
-use Rattle.store_image.specs.Private.Reading.{AreReadTo, BeginsWith, IsNotNext, IsNotReadAt}
+use Rattle.store_image.specs.Reading.{AreNumbered, IsAt, AreReadTo}
+use Rattle.store_image.specs.Private.Reading.{BeginsWith, IsNotNext, IsNotReadAt}
 use Rattle.store_image.proofs.Added.{AreSegments-push, AreSummed-push, pieces_of-push}
 use Rattle.store_image.proofs.Windowed.{record_least}
 use Rattle.store_image.specs.Kept.{segment_with, AreSummed}

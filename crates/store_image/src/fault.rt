@@ -3,6 +3,7 @@
 use blocks::SlotFault;
 use directory::DirectoryFault;
 use disk_model::DiskFault;
+use fault_counts::ReadFault;
 use segment::SegmentFault;
 use std::alloc::{AllocError, AllocFailed};
 use thiserror::Error;
@@ -201,6 +202,21 @@ impl From<SegmentFault> for RowsFault {
         match fault {
             SegmentFault::OutOfMemory => RowsFault::OutOfMemory,
             SegmentFault::BadSegment => RowsFault::Damaged,
+        }
+    }
+}
+
+impl From<RowsFault> for ReadFault {
+    ghost use Rattle.std.specs.Prelude.{◌≡◌};
+    ghost use Rattle.store_image.specs.Private.Reading.{as_read};
+
+    ghost from_gives = { λ fault e. e ≡ as_read fault };
+
+    fn from(fault: RowsFault) -> Self {
+        match fault {
+            RowsFault::OutOfMemory => ReadFault::OutOfMemory,
+            RowsFault::DiskFault => ReadFault::DiskFault,
+            RowsFault::Damaged => ReadFault::Damaged,
         }
     }
 }

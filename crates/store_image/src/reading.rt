@@ -12,10 +12,11 @@ ghost use Rattle.checksum.specs.Crc32c.{crc32c};
 ghost use Rattle.segment.specs.Records.{segment_in};
 ghost use Rattle.store_image.specs.Pieces.{HoldsAll};
 ghost use Rattle.store_image.specs.Kept.{IsSegmentOf, bytes_listed, pieces_of, segment_with};
-ghost use Rattle.store_image.specs.Reading.{AreNumbered, IsAt};
+ghost use Rattle.history_model.specs.declared.stamped.StampedRow.{StampedRow as RowValue};
+ghost use Rattle.store_image.specs.Reading.{AreNumbered, AreReadTo, IsAt};
 ghost use Rattle.store_image.specs.Reader.{Sees};
 ghost use Rattle.store_image.specs.Private.Reading.{CountsFault, BeginsWith};
-ghost use Rattle.store_image.specs.Private.Reading.{AreReadTo, IsAbove};
+ghost use Rattle.store_image.specs.Private.Reading.{IsAbove};
 ghost use Rattle.store_image.specs.Private.Reading.{IsNotNext, IsNotReadAt, AreRead};
 ghost use Rattle.store_image.specs.Private.Damage.{AreNotRead, StopsIn};
 ghost use Rattle.store_image.specs.Answers.{CountsLoading};
@@ -28,17 +29,18 @@ use blocks::BLOCK;
 use directory::Entry;
 use disk_model::Disk;
 use rf2_values::Key;
+use segment::StampedRow;
 use std::alloc::Global;
 
 /// How much of a segment was read.
 #[derive(Clone, Copy)]
 pub(crate) struct ReadTo {
     /// The offset in the segment after the last record that was read.
-    at: u32,
+    pub(crate) at: u32,
     /// The key of the last row that was read.
-    last: Option<Key>,
+    pub(crate) last: Option<Key>,
     /// The CRC-32C of the bytes of the records that were read.
-    crc: u32,
+    pub(crate) crc: u32,
 }
 
 /// The smallest length of a record, in bytes.
@@ -184,7 +186,7 @@ fn read_rows<D: Disk, B: SegmentBuilder>(
     Ok(builder)
 }
 
-/// Reads the row whose record begins at `to.at`, after the rows that were read.
+/// Reads the row whose record begins at `to.at`, after the rows that were read, into a builder.
 fn read_row<D: Disk, B: SegmentBuilder>(
     alloc: Global,
     disk: &mut D,
@@ -222,6 +224,47 @@ fn read_row<D: Disk, B: SegmentBuilder>(
         (λ before after. after + window.old.asked ≤ before + window.new.asked)
         (D.view disk.old) (D.view disk.new) }
 {
+    let (row, next) = next_row(alloc, disk, window, to, imports)?;
+    builder.push(&row)?;
+    Ok(next)
+}
+
+/// Reads the row whose record begins at `to.at`, after the rows that were read, and returns how much
+/// is read with it.
+pub(crate) fn next_row<D: Disk>(
+    alloc: Global,
+    disk: &mut D,
+    window: &mut Window,
+    to: ReadTo,
+    imports: u32,
+) -> Result<(StampedRow, ReadTo), RowsFault>
+    requires from { window.old.from ≤ to.at }
+    requires reached { to.at ≤ window.old.from + window.old.len }
+    ensures read { (rows : List RowValue) → AreReadTo to imports rows
+        → IfOk result (λ r. AreReadTo r.1 imports (rows ++ r.0 ∷ [])) }
+    ensures summed { (rows : List RowValue) → to.crc ≡ crc32c (segment_in window.old.form rows)
+        → IfOk result (λ r. r.1.crc ≡ crc32c (segment_in window.old.form (rows ++ r.0 ∷ []))) }
+    ensures extent { window.new.extent ≡ window.old.extent }
+    ensures form { window.new.form ≡ window.old.form }
+    ensures from { IfOk result (λ r. window.new.from ≤ r.1.at) }
+    ensures reached { IfOk result (λ r. r.1.at ≤ window.new.from + window.new.len) }
+    ensures within { IfOk result (λ r. r.1.at ≤ window.old.extent.bytes) }
+    ensures exact { (D.view disk.old).is_honest
+        → Sees window.old (D.view disk.old).moments.state.now
+        → (rows : List RowValue) → AreReadTo to imports rows → MatchResult result
+        (λ r. BeginsWith window.old.form rows
+        (bytes_of window.old.extent (D.view disk.old).moments.state.now)
+        → BeginsWith window.old.form (rows ++ r.0 ∷ [])
+        (bytes_of window.old.extent (D.view disk.old).moments.state.now))
+        (λ e. IsNotNext window.old.form e imports rows
+        (bytes_of window.old.extent (D.view disk.old).moments.state.now)) }
+    ensures sees { (D.view disk.old).is_honest → Sees window.old (D.view disk.old).moments.state.now
+        → OnOk result (Sees window.new (D.view disk.old).moments.state.now) }
+    ensures goes_on { raised_by (D.view disk.old).bytes_read 0 ≤ (D.view disk.new).bytes_read }
+    ensures meters { OnlyReads (CountsFault result)
+        (λ before after. after + window.old.asked ≤ before + window.new.asked)
+        (D.view disk.old) (D.view disk.new) }
+{
     let (row, at) = window.row_at(alloc, disk, to.at)?;
     if row.import > imports {
         return Err(RowsFault::Damaged);
@@ -230,12 +273,9 @@ fn read_row<D: Disk, B: SegmentBuilder>(
     if !comes_after(to.last, &key) {
         return Err(RowsFault::Damaged);
     }
-    builder.push(&row)?;
-    Ok(ReadTo {
-        at,
-        last: Some(key),
-        crc: window.crc_to(to.crc, to.at, at),
-    })
+    let crc = window.crc_to(to.crc, to.at, at);
+    let last = Some(key);
+    Ok((row, ReadTo { at, last, crc }))
 }
 
 /// Whether a key is greater than that of the last row, if there is one.

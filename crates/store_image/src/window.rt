@@ -59,6 +59,23 @@ impl Window {
         })
     }
 
+    /// Moves the window to an offset of another segment, whose bytes before it count as requested.
+    /// No byte from there on is read yet.
+    pub(crate) fn begin_at(&mut self, extent: Extent, form: Form, at: u32)
+        requires { at ≤ extent.bytes }
+        ensures extent { self.new.extent ≡ extent }
+        ensures form { self.new.form ≡ form }
+        ensures from { self.new.from ≡ at }
+        ensures asked { self.new.asked ≡ at }
+        ensures sees { (file : List ℕ) → Sees self.new file }
+    {
+        self.len = 0;
+        self.from = at;
+        self.asked = at;
+        self.form = form;
+        self.extent = extent;
+    }
+
     /// Moves the window to the beginning of another segment; no byte of it is read yet.
     pub(crate) fn begin(&mut self, extent: Extent, form: Form)
         ensures extent { self.new.extent ≡ extent }
@@ -67,11 +84,7 @@ impl Window {
         ensures asked { self.new.asked ≡ 0 }
         ensures sees { (file : List ℕ) → Sees self.new file }
     {
-        self.len = 0;
-        self.from = 0;
-        self.asked = 0;
-        self.form = form;
-        self.extent = extent;
+        self.begin_at(extent, form, 0);
     }
 
     /// Drops the bytes before an offset of the segment, and moves the others to the front of the

@@ -4,11 +4,11 @@ use Rattle.std.specs.Prelude.{Result, Ok, Err, Option, Some, None}
 use Rattle.std.specs.List.{AllByRecursion}
 use Rattle.std.specs.declared.cmp.Ordering.TheVariants.{Less}
 use Rattle.fault_counts.specs.Counting.{HasRisen}
+use Rattle.fault_counts.specs.declared.fault.ReadFault.{ReadFault}
+use Rattle.fault_counts.specs.declared.fault.ReadFault.TheVariants as reads
 use Rattle.rf2_values.specs.declared.key.Key.{Key}
 use Rattle.rf2_values.specs.Key.{key_of, key_cmp}
 use Rattle.history_model.specs.declared.stamped.StampedRow.{StampedRow}
-use Rattle.history_model.specs.InOrder.{IsAscending}
-use Rattle.history_model.specs.History.{stamped_cmp}
 use Rattle.history_model.specs.Lists.{AreLists}
 use Rattle.directory.specs.declared.entry.Entry.{Entry}
 use Rattle.directory.specs.declared.layout.Layout.{Layout}
@@ -21,7 +21,6 @@ use Rattle.segment.specs.Records.{record_in, record_of, segment_in, segment_of, 
 use Rattle.segment.specs.Standing.{record_len}
 use Rattle.store_image.specs.declared.fault.RowsFault.{RowsFault}
 use Rattle.store_image.specs.declared.fault.RowsFault.TheVariants as faults
-use Rattle.store_image.specs.declared.reading.ReadTo.{ReadTo}
 use Rattle.store_image.specs.declared.window.Window.{Window}
 use Rattle.store_image.specs.Kept.{HasKind, AreSegments, AreSummed}
 use Rattle.store_image.specs.Reader.{bytes_of}
@@ -63,24 +62,10 @@ IsFull w file = (length (drop w.from (bytes_of w.extent file)) ≤ w.len) ⊎ (1
 
 -- ---- the rows of one segment
 
--- the key is that of the last row, if there is one
-abbrev pub IsLastKey : Option Key → List StampedRow → Type 0
-IsLastKey None rows = rows ≡ []
-IsLastKey (Some key) rows = (front : List StampedRow) × (last : StampedRow)
-    × (rows ≡ front ++ last ∷ []) × (key ≡ key_of last.row)
-
 -- the key is greater than the other one, if there is another one
 abbrev pub IsAbove : Key → Option Key → Type 0
 IsAbove key None = Unit {0}
 IsAbove key (Some last) = key_cmp last key ≡ Less
-
--- these rows are in key order, and `to` says where their records end
-pub record AreReadTo (to : ReadTo) (imports : ℕ) (rows : List StampedRow) : Type 0 where
-  pub last_is : IsLastKey to.last rows
-  pub at_is : to.at ≡ length (segment_of rows)
-  pub each : AllByRecursion IsStamped rows
-  pub ascending : IsAscending stamped_cmp rows
-  pub numbered : AreNumbered imports rows
 
 -- the bytes begin with the records of these rows
 abbrev pub BeginsWith : Form → List StampedRow → List ℕ → Type 0
@@ -93,6 +78,17 @@ IsNotNext form faults.DiskFault imports rows bytes = Unit {0}
 IsNotNext form faults.Damaged imports rows bytes = BeginsWith form rows bytes
     → (others : List StampedRow)
     → IsSegmentIn form others bytes → AreNumbered imports others → length rows < length others → ⊥
+
+-- why fewer than `count` rows could be read after these: none could be read after some of them
+abbrev pub IsUnreadAfter : Form → RowsFault → ℕ → ℕ → List StampedRow → List ℕ → Type 0
+IsUnreadAfter form e imports count before bytes = (more : List StampedRow) × (length more < count)
+    × BeginsWith form (before ++ more) bytes × IsNotNext form e imports (before ++ more) bytes
+
+-- a fault of reading rows, as one of reading some of them
+abbrev pub as_read : RowsFault → ReadFault
+as_read faults.OutOfMemory = reads.OutOfMemory
+as_read faults.DiskFault = reads.DiskFault
+as_read faults.Damaged = reads.Damaged
 
 -- why there is no room for an entry's segment, or why it can't be read
 abbrev pub IsNotReadAt : RowsFault → ℕ → Entry → List ℕ → Type 0

@@ -1,50 +1,30 @@
-use Rattle.std.proofs.Common.{◌-◌, sym, subst, arith}
+use Rattle.std.proofs.Common.{◌≡◌, List, ◌++◌, ◌∷◌, [], sym, subst, arith}
 use Rattle.std.proofs.lemmas.Result.{err_from_is_err_and}
-use Rattle.checksum.specs.declared.form.Form.{Form}
-use Rattle.store_image.specs.Reader.{bytes_in}
-use Rattle.store_image.specs.Private.Reading.{HasRecord, IsAbove}
-use Rattle.store_image.proofs.RowsRead.{no_record, above_number, out_of_order, more_bytes, more_are_read, begins_more, summed_on}
+use Rattle.history_model.specs.declared.stamped.StampedRow.{StampedRow}
+use Rattle.checksum.specs.Crc32c.{crc32c}
+use Rattle.segment.specs.Records.{segment_in}
+use Rattle.store_image.specs.Reader.{bytes_of}
+use Rattle.store_image.specs.Reading.{AreReadTo}
+use Rattle.store_image.specs.Private.Reading.{BeginsWith}
 use Rattle.store_image.proofs.reading.read_row.Goals as goal
+
+pub push-requires : goal.push-requires
+push-requires g c =
+    let read = c.in_ok-row.ensures.read _ c.requires.rows in
+    omega (arith, read.at_is, c.in_ok-row.ensures.reached, c.next_row.new.window.known, c.next_row.new.window.fits)
+
+pub returns-clause-read : goal.returns-clause-read
+returns-clause-read g c = subst (λ (l : List StampedRow). AreReadTo c.in_ok-row.next c.args.imports l) (sym c.in_ok-push.ensures.rows) (c.in_ok-row.ensures.read _ c.requires.rows)
+
+pub returns-clause-summed : goal.returns-clause-summed
+returns-clause-summed g c was =
+    subst (λ (l : List StampedRow). c.in_ok-row.next.crc ≡ crc32c (segment_in c.args.window.now.form l)) (sym c.in_ok-push.ensures.rows) (c.in_ok-row.ensures.summed _ was)
 
 pub returns-in_err-row-clause-exact : goal.returns-in_err-row-clause-exact
 returns-in_err-row-clause-exact g c honest sees =
     let p = err_from_is_err_and c.from_residual.result c.from_residual.ensures.1 in
-    rw (p.1, p.2) (no_record c.args.window.now.form c.args.to c.args.imports (g.B.SegmentBuilder.rows c.args.builder.now) _ c.requires.rows c.in_err-row.field-0.0 (c.in_err-row.ensures.exact honest sees))
-
-pub returns-then-row-imports-clause-exact : goal.returns-then-row-imports-clause-exact
-returns-then-row-imports-clause-exact g c honest sees =
-    let above = c.if-row-imports.true in
-    above_number c.args.window.now.form c.args.to c.args.imports (g.B.SegmentBuilder.rows c.args.builder.now) _ c.requires.rows c.in_ok-row.row (c.in_ok-row.ensures.exact honest sees) (omega (arith, above))
-
-pub returns-then-not-comes_after-clause-exact : goal.returns-then-not-comes_after-clause-exact
-returns-then-not-comes_after-clause-exact g c honest sees =
-    out_of_order c.args.window.now.form c.args.to c.args.imports (g.B.SegmentBuilder.rows c.args.builder.now) _ c.requires.rows c.in_ok-row.row (c.in_ok-row.ensures.exact honest sees) (λ above.
-    let yes = c.comes_after.ensures.1 (subst (λ k. IsAbove k c.args.to.last) (sym c.key-key.ensures.key) above) in
-    let no = c.if-not-comes_after.true in
-    absurd cc)
-
-pub push-requires : goal.push-requires
-push-requires g c =
-    let ends = more_bytes c.args.to c.args.imports c.in_ok-row.at (g.B.SegmentBuilder.rows c.args.builder.now) c.in_ok-row.row c.requires.rows c.in_ok-row.ensures.next in
-    omega (arith, ends, c.in_ok-row.ensures.reached, c.row_at.new.self.known, c.row_at.new.self.fits)
-
-pub returns-clause-read : goal.returns-clause-read
-returns-clause-read g c =
-    let low = c.if-row-imports.false in
-    let above = c.comes_after.ensures.0 c.if-not-comes_after.false in
-    more_are_read c.args.to c.args.imports c.in_ok-row.at c.crc_to.result c.key-key.result (g.B.SegmentBuilder.rows c.args.builder.now) _ c.in_ok-row.row c.requires.rows c.in_ok-row.ensures.is c.in_ok-row.ensures.next (omega (arith, low)) c.key-key.ensures.key above c.in_ok-push.ensures.rows
-
-pub crc_to-requires-clause-row : goal.crc_to-requires-clause-row
-crc_to-requires-clause-row g c =
-    let window = c.row_at.new.self in
-    let seen = c.in_ok-row.ensures.seen in
-    (c.in_ok-row.row, c.in_ok-row.ensures.next, subst (λ (f : Form). HasRecord f (bytes_in window) (c.args.to.at - window.from) c.in_ok-row.row) (sym c.in_ok-row.ensures.form) seen.1)
-
-pub returns-clause-summed : goal.returns-clause-summed
-returns-clause-summed g c was =
-    let seen = c.in_ok-row.ensures.seen in
-    summed_on c.args.window.now.form (g.B.SegmentBuilder.rows c.args.builder.now) _ c.in_ok-row.row c.args.to.crc c.crc_to.result c.args.to.at c.in_ok-row.at c.row_at.new.self.from _ was c.in_ok-row.ensures.next seen.1 c.in_ok-push.ensures.rows c.crc_to.ensures
+    rw (p.1, p.2) (c.in_err-row.ensures.exact honest sees _ c.requires.rows)
 
 pub returns-clause-exact : goal.returns-clause-exact
 returns-clause-exact g c honest sees begins =
-    begins_more c.args.window.now.form c.args.to.at (g.B.SegmentBuilder.rows c.args.builder.now) _ c.in_ok-row.row _ c.requires.rows.at_is (c.in_ok-row.ensures.exact honest sees) c.in_ok-push.ensures.rows begins
+    subst (λ (l : List StampedRow). BeginsWith c.args.window.now.form l (bytes_of c.args.window.now.extent (g.D.Disk.view c.args.disk.now).moments.state.now)) (sym c.in_ok-push.ensures.rows) (c.in_ok-row.ensures.exact honest sees _ c.requires.rows begins)

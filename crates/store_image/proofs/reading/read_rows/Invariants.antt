@@ -6,7 +6,8 @@ use Rattle.checksum.specs.Crc32c.{crc32c}
 use Rattle.segment.specs.Records.{segment_in}
 use Rattle.disk_model.specs.Disk.{raised_by}
 use Rattle.store_image.specs.Reader.{Sees}
-use Rattle.store_image.specs.Private.Reading.{AreReadTo, BeginsWith}
+use Rattle.store_image.specs.Reading.{AreReadTo}
+use Rattle.store_image.specs.Private.Reading.{BeginsWith}
 use Rattle.store_image.proofs.reading.read_rows.Given as goal
 
 -- so many rows are read, and the segment's bytes begin with their records
