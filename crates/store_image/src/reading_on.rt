@@ -99,21 +99,22 @@ fn read_some<D: Disk>(
 }
 
 /// Checks, if all rows are read, that their records fill the extent and have the entry's checksum.
-fn check_end(entry: Entry, mark: Mark) -> Result<(), RowsFault>
-    ensures ended { mark.rows ≡ entry.rows → OnOk result (mark.to.at ≡ entry.bytes) }
-    ensures sum { (bytes : List ℕ) → mark.rows ≡ entry.rows → mark.to.crc ≡ crc32c bytes
+/// The records end at this offset, and this is their CRC-32C.
+fn check_end(entry: Entry, rows: u32, at: u32, crc: u32) -> Result<(), RowsFault>
+    ensures ended { rows ≡ entry.rows → OnOk result (at ≡ entry.bytes) }
+    ensures sum { (bytes : List ℕ) → rows ≡ entry.rows → crc ≡ crc32c bytes
         → OnOk result (HasSumOf entry.sums bytes) }
-    ensures refused { (bytes : List ℕ) → mark.to.crc ≡ crc32c bytes
-        → IfErr result (λ e. (e ≡ faults.Damaged) × (mark.rows ≡ entry.rows)
-        × ((mark.to.at ≡ entry.bytes → ⊥) ⊎ (HasSumOf entry.sums bytes → ⊥))) }
+    ensures refused { (bytes : List ℕ) → crc ≡ crc32c bytes
+        → IfErr result (λ e. (e ≡ faults.Damaged) × (rows ≡ entry.rows)
+        × ((at ≡ entry.bytes → ⊥) ⊎ (HasSumOf entry.sums bytes → ⊥))) }
 {
-    if mark.rows != entry.rows {
+    if rows != entry.rows {
         return Ok(());
     }
-    if mark.to.at != entry.bytes {
+    if at != entry.bytes {
         return Err(RowsFault::Damaged);
     }
-    if !entry.has_sum(mark.to.crc) {
+    if !entry.has_sum(crc) {
         return Err(RowsFault::Damaged);
     }
     Ok(())
@@ -156,11 +157,8 @@ pub fn read_on<D: Disk>(
     let mut window = Window::new(alloc)?;
     window.begin_at(entry.extent(), entry.form(), mark.to.at);
     let count = n.min(entry.rows - mark.rows);
+    let all = mark.rows + count;
     let (rows, to) = read_some(alloc, disk, &mut window, mark.to, imports, count)?;
-    let after = Mark {
-        to,
-        rows: mark.rows + count,
-    };
-    check_end(entry, after)?;
-    Ok((rows, after))
+    check_end(entry, all, to.at, to.crc)?;
+    Ok((rows, Mark { to, rows: all }))
 }

@@ -29,8 +29,8 @@ returns-clause-read g c rows read =
     let above = c.comes_after.ensures.0 c.if-not-comes_after.false in
     more_are_read c.args.to c.args.imports c.in_ok-row.at c.crc_to-crc.result c.key-key.result rows _ c.in_ok-row.row read c.in_ok-row.ensures.is c.in_ok-row.ensures.next (omega (arith, low)) c.key-key.ensures.key above refl
 
-pub crc_to-requires-clause-row : goal.crc_to-requires-clause-row
-crc_to-requires-clause-row g c =
+pub crc_to-crc-requires-clause-row : goal.crc_to-crc-requires-clause-row
+crc_to-crc-requires-clause-row g c =
     let window = c.row_at.new.self in
     let seen = c.in_ok-row.ensures.seen in
     (c.in_ok-row.row, c.in_ok-row.ensures.next, subst (λ (f : Form). HasRecord f (bytes_in window) (c.args.to.at - window.from) c.in_ok-row.row) (sym c.in_ok-row.ensures.form) seen.1)

@@ -28,3 +28,9 @@ returns-in_err-row-clause-exact g c honest sees =
 pub returns-clause-exact : goal.returns-clause-exact
 returns-clause-exact g c honest sees begins =
     subst (λ (l : List StampedRow). BeginsWith c.args.window.now.form l (bytes_of c.args.window.now.extent (g.D.Disk.view c.args.disk.now).moments.state.now)) (sym c.in_ok-push.ensures.rows) (c.in_ok-row.ensures.exact honest sees _ c.requires.rows begins)
+
+pub returns-in_err-push-clause-meters : goal.returns-in_err-push-clause-meters
+returns-in_err-push-clause-meters g c =
+    let p = err_from_is_err_and c.from_residual-in_err-push.result c.from_residual-in_err-push.ensures.1 in
+    let read = c.in_ok-row.ensures.meters in
+    rw (p.1, p.2) (record { moments = read.moments; honesty = read.honesty; failures = read.failures; bytes_read = read.bytes_read; other_calls = read.other_calls })

@@ -20,17 +20,19 @@ same_now : (old new : Moments) → new ≡ old → new.state.now ≡ old.state.n
 same_now old new same = ap (λ (m : Moments). m.state.now) same
 
 pub rows-init : goal.rows-init
-rows-init g c = record {
-  count = refl;
-  read = λ before is. none_on (λ (l : List StampedRow). AreReadTo c.args.to c.args.imports l) before is;
-  summed = λ before is. none_on (λ (l : List StampedRow). c.args.to.crc ≡ crc32c (segment_in c.args.window.now.form l)) before is;
+rows-init g c =
+    let none = c.new-rows.ensures.items in
+    record {
+  count = ap length none;
+  read = λ before is. none_on (λ (l : List StampedRow). AreReadTo c.args.to c.args.imports l) before _ none is;
+  summed = λ before is. none_on (λ (l : List StampedRow). c.args.to.crc ≡ crc32c (segment_in c.args.window.now.form l)) before _ none is;
   extent = refl;
   form_is = refl;
   from = c.requires.from;
   reached = c.requires.reached;
   within = c.requires.within;
   sees = λ honest sees. sees;
-  begins = λ honest sees before read begins. none_on (λ (l : List StampedRow). BeginsWith c.args.window.now.form l (bytes_of c.args.window.now.extent (g.D.Disk.view c.args.disk.now).moments.state.now)) before begins;
+  begins = λ honest sees before read begins. none_on (λ (l : List StampedRow). BeginsWith c.args.window.now.form l (bytes_of c.args.window.now.extent (g.D.Disk.view c.args.disk.now).moments.state.now)) before _ none begins;
   moments = λ honest. refl;
   honesty = (λ h. h, λ h. h);
   failures = refl;
@@ -80,7 +82,7 @@ rows-preserved g c =
 
 pub returns-in_err-row-clause-exact : goal.returns-in_err-row-clause-exact
 returns-in_err-row-clause-exact g c honest sees before is begins =
-    let p = err_from_is_err_and c.from_residual-in_err-row.result c.from_residual-in_err-row.ensures.1 in
+    let p = err_from_is_err_and c.from_residual.result c.from_residual.ensures.1 in
     let inv = c.rows.invariant in
     let fn = c.args in
     let e = c.in_err-row.field-0.0 in
