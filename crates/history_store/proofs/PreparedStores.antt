@@ -4,7 +4,7 @@ use Rattle.std.proofs.Common.{◌≡◌, ◌⊎◌, inl, inr, false, ℕ, ◌≤
 use Rattle.rf2_values.specs.Row.{RowValue}
 use Rattle.std.specs.List.{AllByRecursion}
 use Rattle.blocks.specs.Extents.{block_count}
-use Rattle.history_model.specs.History.{stamped}
+use Rattle.history_model.specs.History.{History, stamped}
 use Rattle.history_model.specs.declared.stamped.StampedRow.{StampedRow}
 use Rattle.history_model.specs.InOrder.{Has}
 use Rattle.history_model.specs.Lists.{AreLists, listed}
@@ -34,9 +34,9 @@ use Rattle.history_store.specs.declared.attaching.AttachFault.TheVariants as fau
 use Rattle.history_store.specs.declared.attaching.NotPrepared.{NotPrepared}
 use Rattle.history_store.specs.declared.attaching.NotPrepared.TheVariants as reasons
 use Rattle.history_store.specs.declared.refusal.Refusal.TheVariants as refusals
-use Rattle.history_store.specs.Catalog.{Merge, reserved_by}
+use Rattle.history_store.specs.Catalog.{Merge, Catalog, reserved_by}
 use Rattle.history_store.specs.StoreValue.{StoreValue}
-use Rattle.history_store.specs.Attaching.{IsPreparedStore, HasPrepared, WhyNotPrepared, IsUntaken, IsPlacedFor, IsReserved, MayAttach, IsAttached, WhyNotAttached, PreparedIsAttached, RoomIsEnough, left_of, room_for}
+use Rattle.history_store.specs.Attaching.{IsPreparedStore, HasPrepared, WhyNotPrepared, IsUntaken, IsPlacedFor, IsReserved, MayAttach, IsAttached, WhyNotAttached, PreparedIsAttached, RoomIsEnough, StaysAttached, left_of, room_for}
 use Rattle.history_store.specs.Private.Attaching.{IsFitFor, HasNoFit}
 use Rattle.history_store.proofs.Counted.{rows_counted}
 use Rattle.history_store.proofs.Reopened.{represented_is_opened}
@@ -197,3 +197,14 @@ module _ {D : Type 0} (s : StoreValue D) (may : MayAttach s) where
         none = ap (λ (m : Option Merge). fit (block_count (extent_of source)) s.catalog.entries (reserved_by m)) may.no_merge ∙ none;
       },
     )
+
+-- ---- the store stays as it is
+
+pub stays_attached : {D : Type 0} → StaysAttached D
+stays_attached attached old new is history catalog = record {
+  layout = ap (λ (c : Catalog). c.layout) catalog ∙ is.layout;
+  no_merge = ap (λ (c : Catalog). c.merge) catalog ∙ is.no_merge;
+  imports = is.imports ∙ ap (λ (h : History). h.imports) (sym history);
+  known = is.known ∙ ap (λ (h : History). h.rows) (sym history);
+  reserved = subst (λ (c : Catalog). IsReserved c attached.segment) (sym catalog) is.reserved;
+}

@@ -170,10 +170,6 @@ abbrev pub CountsUnprepared : NotPrepared → ℕ → ℕ → Type 0
 CountsUnprepared (reasons.Unread loading.DiskFault) old new = HasRisen old new
 CountsUnprepared _ old new = new ≡ old
 
-abbrev pub CountsPreparing : {T : Type 0} → Result T NotPrepared → ℕ → ℕ → Type 0
-CountsPreparing (Ok x) old new = new ≡ old
-CountsPreparing (Err why) old new = CountsUnprepared why old new
-
 abbrev pub CountsAttaching : {T : Type 0} → Result T AttachFault → ℕ → ℕ → Type 0
 CountsAttaching (Ok x) old new = new ≡ old
 CountsAttaching (Err (faults.NotPrepared why)) old new = CountsUnprepared why old new
@@ -195,3 +191,8 @@ abbrev pub RoomIsEnough : Type 0
 RoomIsEnough = (file : List ℕ) (rows : List RowValue) (source : Entry) (import : ℕ)
     → IsPreparedStore file rows → HasPrepared (λ d. HasDirectory d file) (Some source)
     → length (segment_of (stamped import rows)) ≡ source.bytes
+
+-- a call that leaves history and catalog as they are, as questions do, leaves an import attached
+abbrev pub StaysAttached : Type 0 → Type 0
+StaysAttached D = (attached : AttachedImport) (old new : StoreValue D) → IsAttachedTo attached old
+    → new.history ≡ old.history → new.catalog ≡ old.catalog → IsAttachedTo attached new

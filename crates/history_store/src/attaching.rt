@@ -12,8 +12,8 @@ ghost use Rattle.store_image.specs.Answers.{IsNotOpened};
 ghost use Rattle.store_image.specs.Damage.{HasDirectory};
 ghost use Rattle.store_image.specs.Listed.{IsOfListing};
 ghost use Rattle.history_store.specs.Attaching.{HasPrepared, IsOfOneImport, IsOfOther};
-ghost use Rattle.history_store.specs.Attaching.{WhyNotPrepared, CountsPreparing};
-ghost use Rattle.history_store.specs.Private.Attaching.{IsFitFor, HasNoFit};
+ghost use Rattle.history_store.specs.Attaching.{WhyNotPrepared};
+ghost use Rattle.history_store.specs.Private.Attaching.{CountsPreparing, IsFitFor, HasNoFit};
 
 use crate::attached::{AttachedImport, AttachedSegment};
 use crate::refusal::Refusal;

@@ -1,10 +1,12 @@
 -- Definitions that complete those of `Attaching`. No public clause cites them.
-use Rattle.std.specs.Prelude.{◌≡◌, List, Option, Some, None}
+use Rattle.std.specs.Prelude.{◌≡◌, ℕ, List, Option, Some, None, Result, Ok, Err}
 use Rattle.blocks.specs.Extents.{block_count}
 use Rattle.directory.specs.declared.entry.Entry.{Entry}
 use Rattle.directory.specs.Fit.{fit}
 use Rattle.directory.specs.Places.{extent_of}
 use Rattle.history_store.specs.declared.attached.AttachedSegment.{AttachedSegment}
+use Rattle.history_store.specs.declared.attaching.NotPrepared.{NotPrepared}
+use Rattle.history_store.specs.Attaching.{CountsUnprepared}
 
 -- the segment of this entry, of which no row is taken, and the first block with room for all
 abbrev pub IsFitFor : List Entry → Option Entry → Option AttachedSegment → Type 0
@@ -17,3 +19,8 @@ IsFitFor entries _ _ = ⊥
 abbrev pub HasNoFit : List Entry → Option Entry → Type 0
 HasNoFit entries None = ⊥
 HasNoFit entries (Some source) = fit (block_count (extent_of source)) entries None ≡ None
+
+-- the count of the disk's failures, after a read of what it has
+abbrev pub CountsPreparing : {T : Type 0} → Result T NotPrepared → ℕ → ℕ → Type 0
+CountsPreparing (Ok x) old new = new ≡ old
+CountsPreparing (Err why) old new = CountsUnprepared why old new
