@@ -18,4 +18,5 @@ pub mod Edges
 pub mod Selection
 pub mod Laws
 pub mod MergedEdges
+pub mod Marks
 pub mod Private

@@ -32,7 +32,7 @@ pub use languages::called;
 pub use member_pages::{member_page, members};
 pub use merging::Merging;
 pub use posting::{Posting, Tag};
-pub use postings::{Postings, Sealed, Subject};
+pub use postings::{Mark, Postings, Sealed, Subject};
 pub use reaching::{ancestors, descendants};
 pub use subjects::about;
 pub use value_sets::values;

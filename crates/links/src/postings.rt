@@ -9,6 +9,8 @@ ghost use Rattle.std.specs.Ordering.{nat_cmp};
 ghost use Rattle.links.specs.Edges.{no_edges, posting, plain_key, keys_of_relationship, posted};
 ghost use Rattle.links.specs.Edges.{posted_subject, edges_of};
 ghost use Rattle.links.specs.Edges.{AreSameEdges, IsSealed, joined_edges, subject_rank, rank_of};
+ghost use Rattle.links.specs.Edges.{count_of};
+ghost use Rattle.links.specs.Marks.{first_edges};
 
 use crate::posting::{Posting, Tag, rank_of};
 use history_model::{IS_A, StampedRow, subject_of};
@@ -41,6 +43,23 @@ impl Model for Postings {
     ghost Value = { Edges };
 
     ghost view = { λ a. record { subjects = a.subjects.items; postings = a.postings.items } };
+}
+
+/// How many subjects and postings there were, to which `cut_to` can return.
+#[derive(Clone, Copy)]
+pub struct Mark {
+    subjects: usize,
+    postings: usize,
+}
+
+impl Model for Mark {
+    ghost use Rattle.links.specs.Edges.{EdgeCount};
+
+    ghost Value = { EdgeCount };
+
+    ghost view = { λ m. record { subjects = m.subjects; postings = m.postings } };
+
+    ghost inverse = { λ n. record { subjects = n.subjects; postings = n.postings } };
 }
 
 /// The subjects and the postings of a segment, sorted: subjects by the component and then by kind,
@@ -209,6 +228,24 @@ impl Postings {
         push_subject(&mut self.subjects, row, number);
         push_postings(&mut self.postings, row, number);
         Ok(())
+    }
+
+    /// How many subjects and postings there are, for `cut_to`.
+    pub fn mark(&self) -> Mark
+        ensures { result ≡ count_of self.now }
+    {
+        Mark {
+            subjects: self.subjects.len(),
+            postings: self.postings.len(),
+        }
+    }
+
+    /// Keeps the first subjects and postings, which are those from when `mark` returned this mark.
+    pub fn cut_to(&mut self, mark: Mark)
+        ensures { self.new ≡ first_edges mark self.old }
+    {
+        self.subjects.truncate(mark.subjects);
+        self.postings.truncate(mark.postings);
     }
 
     /// The subjects and the postings, sorted. Allocates nothing.

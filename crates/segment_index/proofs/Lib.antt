@@ -1,4 +1,5 @@
 pub mod Built
+pub mod Marks
 pub mod AllLists
 pub mod Moving
 pub mod Outputs

@@ -10,6 +10,7 @@ pub use Rattle.merge.specs.Merged
 pub use Rattle.as_of_index.specs.Numbers
 pub use Rattle.links.specs.MergedEdges
 pub mod Indexed
+pub mod Marks
 pub mod Output
 pub mod Private
 pub mod UnderWay

@@ -16,6 +16,18 @@ use segment::RowPlace;
 use std::alloc::{AllocError, Global};
 use std::marker::Model;
 
+/// How many rows and postings an index had, to which `cut_to` can return.
+#[derive(Clone, Copy)]
+pub struct IndexMark {
+    /// How many rows there were.
+    pub rows: usize,
+    pub(crate) terms: usize,
+    pub(crate) links: links::Mark,
+    pub(crate) posted_words: usize,
+    /// The total length of the rows' records, in bytes.
+    pub bytes: u32,
+}
+
 /// The places and postings of one segment's rows, built row by row. Its value in clauses are the
 /// rows so far, and whether words are kept.
 #[derive(Drop)]
@@ -109,6 +121,8 @@ fn post(
 }
 
 impl IndexBuilder {
+    ghost use Rattle.segment_index.specs.Marks.{IsMarkAt, IsMarkWithin, rows_at};
+
     /// An index of no rows, with capacity for this many places.
     pub fn with_capacity(
         alloc: Global,
@@ -166,6 +180,35 @@ impl IndexBuilder {
                 Err(error)
             }
         }
+    }
+
+    /// How many rows and postings there are, for `cut_to`.
+    pub fn mark(&self) -> IndexMark
+        // promise: the_index_has_every_row
+        ensures { IsMarkAt self.now result }
+    {
+        IndexMark {
+            rows: self.rows.len(),
+            terms: self.terms.len(),
+            links: self.links.mark(),
+            posted_words: self.posted_words.len(),
+            bytes: self.bytes,
+        }
+    }
+
+    /// Takes away all rows that were pushed since `mark` returned this mark. Looks at the places of
+    /// the rows that are kept, and allocates nothing.
+    pub fn cut_to(&mut self, mark: IndexMark)
+        requires { IsMarkWithin self.old mark }
+        // promise: the_index_has_every_row
+        ensures { self.new ≡ rows_at mark self.old }
+    {
+        self.rows.cut_to(mark.rows);
+        self.places.cut_to(mark.rows);
+        self.terms.cut_to(mark.terms);
+        self.links.cut_to(mark.links);
+        self.posted_words.cut_to(mark.posted_words);
+        self.bytes = mark.bytes;
     }
 
     /// The finished index, whose postings are sorted. Allocates only for words.

@@ -6,13 +6,14 @@
 mod added_places;
 mod builder;
 mod index_merge;
+pub mod laws;
 mod output_postings;
 mod postings_merge;
 mod sealed;
 mod store_index;
 mod words;
 
-pub use builder::IndexBuilder;
+pub use builder::{IndexBuilder, IndexMark};
 pub use index_merge::{IndexMerge, MergeMark};
 pub use sealed::SegmentIndex;
 pub use store_index::StoreIndex;

@@ -5,6 +5,7 @@
 //! the date and the pin.
 #![tactic(auto)]
 
+mod folding;
 pub mod laws;
 mod merging;
 mod postings;

@@ -1,7 +1,7 @@
 //! The terms of rows, in the order in which rows are pushed.
 
 ghost use Rattle.std.specs.Prelude.{◌≡◌, ◌++◌, [], List, length, take, OnOk, OnErr, IfOk};
-ghost use Rattle.std.specs.Prelude.{string_bytes, IsAscii};
+ghost use Rattle.std.specs.Prelude.{IsAscii};
 ghost use Rattle.std.specs.List.Sorted.{IsPermutation};
 ghost use Rattle.std.specs.Str.{IsUtf8};
 ghost use Rattle.history_model.specs.Queries.{folded};
@@ -10,10 +10,10 @@ ghost use Rattle.term_prefix.specs.Pushed.{posted_term};
 ghost use Rattle.term_prefix.specs.Laid.{terms_at, AreLaid, HaveHeads};
 ghost use Rattle.term_prefix.specs.Private.{AddsTerm, IsCut};
 
+use crate::folding::{extend_by_lower_case, folded};
 use crate::sealed::Sealed;
 use crate::sorting::sort;
 use crate::text::{Term, head_of};
-use caseless::default_case_fold_str;
 use history_model::StampedRow;
 use rf2_values::Body;
 use std::alloc::{AllocError, Global};
@@ -39,31 +39,6 @@ impl Model for Postings {
 
     ghost invariant = { λ a. AreLaid 0 a.terms.items (length a.text.items)
         × HaveHeads a.text.items a.terms.items };
-}
-
-/// A term in the default case folding.
-#[tactic(auto, unfolding(history_model::specs::Queries::folded))]
-fn folded(alloc: Global, term: &[u8]) -> Result<String, AllocError>
-    requires { IsUtf8 term.now }
-    ensures { IfOk result (λ t. string_bytes t ≡ folded term.now) }
-{
-    match str::from_utf8(term) {
-        Ok(text) => default_case_fold_str(alloc, text),
-        Err(_) => unreachable!(),
-    }
-}
-
-/// Adds the default case folding of a term in ASCII, which is its lower case, at the end of a text.
-/// An `Err` changes nothing.
-fn extend_by_lower_case(text: &mut Vec<u8>, term: &[u8]) -> Result<(), AllocError>
-    requires { IsAscii term.now }
-    ensures ok { OnOk result (text.new.items ≡ text.old.items ++ folded term.now) }
-    ensures err { OnErr result (text.new.items ≡ text.old.items) }
-{
-    let start = text.len();
-    text.extend_from_slice(term)?;
-    text[start..].make_ascii_lowercase();
-    Ok(())
 }
 
 /// Adds the folding of a term that is in ASCII. Fails if the term has 4 GiB or more. An `Err`
@@ -146,7 +121,7 @@ fn push_folded(
         return push_ascii(text, terms, term, row);
     }
     let folded = folded(alloc, term)?;
-    push_term(text, terms, folded.as_bytes(), row)
+    push_term(text, terms, folded.as_slice(), row)
 }
 
 /// Keeps the first `len` terms and their text.

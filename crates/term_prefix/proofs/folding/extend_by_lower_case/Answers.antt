@@ -1,6 +1,6 @@
 use Rattle.term_prefix.proofs.Ascii.{lower_case_added}
 use Rattle.std.proofs.Common.{◌∙◌}
-use Rattle.term_prefix.proofs.postings.extend_by_lower_case.Goals as goal
+use Rattle.term_prefix.proofs.folding.extend_by_lower_case.Goals as goal
 
 pub returns-clause-ok : goal.returns-clause-ok
 returns-clause-ok c =
