@@ -123,6 +123,22 @@ fn post(
 impl IndexBuilder {
     ghost use Rattle.segment_index.specs.Marks.{IsMarkAt, IsMarkWithin, rows_at};
 
+    /// An index of no rows. Allocates nothing.
+    pub fn new(alloc: Global, words: Words) -> IndexBuilder
+        // promise: the_index_has_every_row
+        ensures { result ≡ record { rows = []; words = words } }
+    {
+        IndexBuilder {
+            places: PlaceListBuilder::new(alloc),
+            terms: term_prefix::Postings::new(alloc),
+            links: links::Postings::new(alloc),
+            posted_words: term_words::Postings::new(alloc),
+            words,
+            rows: GhostRows::new(alloc),
+            bytes: 0,
+        }
+    }
+
     /// An index of no rows, with capacity for this many places.
     pub fn with_capacity(
         alloc: Global,
