@@ -15,6 +15,7 @@ pub mod Written
 pub mod Meters
 pub mod MergeAnswers
 pub mod Attaching
+pub mod Taking
 pub mod Refusals
 pub mod Laws
 pub mod Private

@@ -8,6 +8,7 @@ pub mod Prepared
 pub mod Ready
 pub mod Answers
 pub mod Stepping
+pub mod Taking
 pub mod Meters
 use Rattle.std.specs.Prelude.{◌==◌, ◌≡◌, ℕ, ◌≤◌, max, List, [], length, Option, Some, None}
 use Rattle.std.specs.List.{filter}

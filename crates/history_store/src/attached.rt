@@ -3,8 +3,9 @@
 ghost use Rattle.std.specs.Prelude.{◌≡◌, ◌≤◌};
 
 use directory::Entry;
-use segment_index::StoreIndex;
+use segment_index::{IndexBuilder, StoreIndex};
 use std::snapshot::Snapshot;
+use store_image::Mark;
 
 /// An import whose rows another process prepared in a store of their own. It is kept beside the
 /// store that it will be an import of: its rows are taken by steps, and the store has none of them
@@ -20,7 +21,7 @@ pub struct AttachedImport {
 }
 
 /// The segment of a prepared store, and where its rows go.
-#[derive(Clone, Copy)]
+#[derive(Drop)]
 pub(crate) struct AttachedSegment {
     /// The segment's entry in the directory of the prepared store.
     pub(crate) source: Entry,
@@ -28,6 +29,13 @@ pub(crate) struct AttachedSegment {
     pub(crate) first: u32,
     /// How many rows were taken.
     pub(crate) taken: u32,
+    /// How far the prepared segment was read.
+    pub(crate) mark: Mark,
+    /// The index of the new rows among those that were taken, as rows of the import. Their records
+    /// are written.
+    pub(crate) output: IndexBuilder,
+    /// The CRC-32C of the records that are written.
+    pub(crate) crc: u32,
     ghost within: { taken ≤ source.rows },
 }
 

@@ -1,6 +1,7 @@
 //! Attaching the import of a prepared store.
 
-ghost use Rattle.std.specs.Prelude.{◌≡◌, ◌≢◌, ◌⊎◌, ◌↔◌, ◌≤◌, IsTrue, Some, None, slice_get, MatchResult};
+ghost use Rattle.std.specs.Prelude.{◌≡◌, ◌≢◌, ◌⊎◌, ◌↔◌, ◌≤◌, [], IsTrue, IfOk, Some, None, slice_get};
+ghost use Rattle.std.specs.Prelude.{MatchResult};
 ghost use Rattle.disk_model.specs.View.{Calls, AtMost};
 ghost use Rattle.blocks.specs.Extents.{block_count};
 ghost use Rattle.blocks.specs.Slots.{slots_read};
@@ -13,16 +14,17 @@ ghost use Rattle.store_image.specs.Damage.{HasDirectory};
 ghost use Rattle.store_image.specs.Listed.{IsOfListing};
 ghost use Rattle.history_store.specs.Attaching.{HasPrepared, IsOfOneImport, IsOfOther};
 ghost use Rattle.history_store.specs.Attaching.{WhyNotPrepared, CountsPreparing};
-ghost use Rattle.history_store.specs.Private.Attaching.{IsFitFor, HasNoFit};
+ghost use Rattle.history_store.specs.Private.Attaching.{IsFitFor, HasNoFit, IsBegunWith};
 
 use crate::attached::{AttachedImport, AttachedSegment};
 use crate::refusal::Refusal;
 use crate::store::Store;
 use directory::{Directory, Entry, Full as NoRoom, Layout, first_fit};
 use disk_model::Disk;
+use segment_index::{IndexBuilder, Words};
 use std::alloc::Global;
 use std::snapshot::Snapshot;
-use store_image::{LoadFault, read_listing};
+use store_image::{LoadFault, Mark, read_listing};
 use thiserror::Error;
 
 /// Why a disk has no prepared store.
@@ -114,9 +116,15 @@ fn only_segment(directory: &Directory) -> Result<Option<Entry>, NotPrepared>
 }
 
 /// Where the rows of a prepared segment go, none of which is taken yet.
-fn place(source: Option<Entry>, entries: &[Entry]) -> Result<Option<AttachedSegment>, NoRoom>
+fn place(
+    alloc: Global,
+    source: Option<Entry>,
+    entries: &[Entry],
+    words: Words,
+) -> Result<Option<AttachedSegment>, NoRoom>
     ensures untaken { MatchResult result (IsFitFor entries.now source)
         (λ _. HasNoFit entries.now source) }
+    ensures begun { IfOk result (IsBegunWith words) }
 {
     let Some(source) = source else {
         return Ok(None);
@@ -126,6 +134,9 @@ fn place(source: Option<Entry>, entries: &[Entry]) -> Result<Option<AttachedSegm
         source,
         first,
         taken: 0,
+        mark: Mark::start(),
+        output: IndexBuilder::new(alloc, words),
+        crc: 0,
     }))
 }
 
@@ -150,6 +161,7 @@ fn read_source<P: Disk>(alloc: Global, disk: &mut P) -> Result<Option<Entry>, No
 impl<D: Disk> Store<D> {
     ghost use Rattle.history_store.specs.Attaching.{IsAttachingOf, IsAttachingOnAnyDisk};
     ghost use Rattle.history_store.specs.Attaching.{CountsAttaching, MayAttach};
+    ghost use Rattle.history_store.specs.Taking.{HasTakenOf};
 
     /// Attaches the import of a prepared store, to be taken from its disk by steps. Reads which
     /// segment that store has and nothing of the segment, whose rows are checked when they are
@@ -161,6 +173,8 @@ impl<D: Disk> Store<D> {
         // What is promised whatever the disk returns.
         // promise: a_refusal_names_its_cause
         ensures kept { IsAttachingOnAnyDisk result self.now }
+        // No row is taken yet.
+        ensures taken { IfOk result (λ attached. HasTakenOf D.view attached self.now []) }
         // A store to which nothing may be attached asks nothing of the other disk.
         ensures unasked { (MayAttach self.now → ⊥) → prepared.new ≡ prepared.old }
         ensures moments { (P.view prepared.old).is_honest
@@ -180,7 +194,8 @@ impl<D: Disk> Store<D> {
             return Err(AttachFault::Refused(Refusal::LaterVersion));
         }
         let source = read_source(self.alloc, prepared)?;
-        let segment = place(source, self.directory.entries())?;
+        let entries = self.directory.entries();
+        let segment = place(self.alloc, source, entries, self.index.keeps_words())?;
         Ok(AttachedImport {
             imports: self.directory.imports(),
             known: Snapshot::of(&self.index),

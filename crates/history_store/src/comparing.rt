@@ -1,0 +1,101 @@
+//! Compares rows that come in key order with those that the store has.
+
+ghost use Rattle.std.specs.Prelude.{◌≡◌, ◌≢◌, ◌↔◌, ◌+◌, ◌≤◌, ◌<◌, ◌^◌, Ok, Err, true, false};
+ghost use Rattle.std.specs.Prelude.{IfOk, IfErr, MatchResult};
+ghost use Rattle.std.specs.List.{sum_by};
+ghost use Rattle.disk_model.specs.View.{OnlyReads, AtMost};
+ghost use Rattle.fault_counts.specs.Counting.{Counts};
+ghost use Rattle.rf2_values.specs.Row.{RowValue};
+ghost use Rattle.rf2_values.specs.Key.{key_of};
+ghost use Rattle.history_model.specs.InOrder.{Has, IsAscending};
+ghost use Rattle.history_model.specs.History.{stamped_cmp};
+ghost use Rattle.as_of_index.specs.Places.{Lists};
+ghost use Rattle.import_check.specs.Known.{IsUnknown, IsKnown, LeavesKnown, already_known};
+ghost use Rattle.history_store.specs.Private.Reading.{rows_of, Early, MayBeRead};
+ghost use Rattle.history_store.specs.Private.Taking.{IsVerdictOf};
+ghost use Rattle.history_store.specs.Taking.{AreCompared, IsNotCompared, without_imports};
+ghost use Rattle.history_store.specs.Taking.{CountsTaking, CountsDamagedRows};
+ghost use Rattle.history_store.specs.declared.taking.TakeFault.TheVariants as faults;
+ghost use Rattle.history_store.specs.declared.refusal.Refusal.TheVariants as refusals;
+
+use crate::known::ListedRows;
+use crate::reading::DiskRows;
+use crate::refusal::Refusal;
+use crate::store::Store;
+use crate::taking::TakeFault;
+use as_of_index::{Hints, Index, RowReader};
+use disk_model::Disk;
+use history_model::StampedRow;
+use import_check::Known;
+use rf2_values::Row;
+use shrinking_list::ShrinkingList;
+use std::alloc::Global;
+
+/// Whether no known row has the key of a row. Otherwise the known row with the key is the same.
+fn is_new<K: Known>(alloc: Global, row: &Row, known: &mut K) -> Result<bool, TakeFault>
+    ensures exact { (K.view known.old).is_honest → (K.view known.old).is_sound
+        → IsVerdictOf (K.view known.old).rows (Has (K.view known.old).rows) row.now result }
+    ensures by_key { (K.view known.old).is_sound
+        → IsVerdictOf (K.view known.old).rows (K.view known.old).may_be row.now result }
+    ensures undamaged { (K.view known.old).is_honest
+        → IfErr result (λ e. e ≢ faults.Refused refusals.Damaged) }
+    ensures work { (K.view known.old).is_sound → (other : RowValue)
+        → Has (K.view known.old).rows other → key_of other ≡ key_of row.now
+        → (K.view known.new).work ≤ (K.view known.old).work + K.cost other }
+    ensures work_unknown { (K.view known.old).is_sound
+        → IsUnknown (K.view known.old).rows (key_of row.now)
+        → (K.view known.new).work ≤ (K.view known.old).work }
+    ensures known { LeavesKnown CountsTaking CountsDamagedRows result
+        (K.view known.old) (K.view known.new) }
+    ensures stays { K.stays known.old known.new }
+{
+    let key = row.key();
+    match known.row(alloc, &key) {
+        Ok(None) => Ok(true),
+        Ok(Some(found)) => {
+            if found.is_same(row) {
+                Ok(false)
+            } else {
+                Err(TakeFault::Contradiction(key))
+            }
+        }
+        Err(fault) => Err(TakeFault::Refused(Refusal::from(fault))),
+    }
+}
+
+/// Those of rows in key order whose keys no known row has, as rows of an import. Each key is looked
+/// up once.
+fn compare_rows<K: Known>(
+    alloc: Global,
+    rows: Vec<StampedRow>,
+    import: u32,
+    known: &mut K,
+) -> Result<Vec<StampedRow>, TakeFault>
+    ensures exact { (K.view known.old).is_honest → (K.view known.old).is_sound
+        → MatchResult result (λ fresh. AreCompared (K.view known.old).rows
+        (Has (K.view known.old).rows) (without_imports rows.items) import fresh.items)
+        (IsNotCompared (K.view known.old).rows (Has (K.view known.old).rows)
+        (without_imports rows.items)) }
+    ensures by_key { (K.view known.old).is_sound
+        → MatchResult result (λ fresh. AreCompared (K.view known.old).rows
+        (K.view known.old).may_be (without_imports rows.items) import fresh.items)
+        (IsNotCompared (K.view known.old).rows (K.view known.old).may_be
+        (without_imports rows.items)) }
+    ensures undamaged { (K.view known.old).is_honest
+        → IfErr result (λ e. e ≢ faults.Refused refusals.Damaged) }
+    ensures work { (K.view known.old).is_sound → IsAscending stamped_cmp rows.items
+        → (K.view known.new).work ≤ (K.view known.old).work
+        + sum_by K.cost (already_known (K.view known.old).rows (without_imports rows.items)) }
+    ensures known { LeavesKnown CountsTaking CountsDamagedRows result
+        (K.view known.old) (K.view known.new) }
+    ensures stays { K.stays known.old known.new }
+{
+    let mut fresh = Vec::new(alloc);
+    for stamped in ShrinkingList::new(rows) {
+        let row = stamped.row;
+        if is_new(alloc, &row, known)? {
+            fresh.push(StampedRow { row, import })?;
+        }
+    }
+    Ok(fresh)
+}
