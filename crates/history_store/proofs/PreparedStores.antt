@@ -1,11 +1,20 @@
 -- What is attached of a prepared store.
 use Rattle.std.specs.Prelude.{Option, Some, None, Ok, Err, slice_get, sum_by}
-use Rattle.std.proofs.Common.{◌≡◌, ◌⊎◌, inl, inr, false, ℕ, ◌≤◌, List, [], ◌∷◌, length, refl, sym, ap, subst, ◌∙◌, arith}
+use Rattle.std.proofs.Common.{◌≡◌, ◌⊎◌, inl, inr, false, ℕ, ◌≤◌, List, [], ◌∷◌, length, refl, sym, ap, subst, ◌∙◌, arith, append-nil, length-append}
 use Rattle.rf2_values.specs.Row.{RowValue}
 use Rattle.std.specs.List.{AllByRecursion}
 use Rattle.blocks.specs.Extents.{block_count}
 use Rattle.history_model.specs.History.{stamped}
-use Rattle.history_model.specs.Lists.{listed}
+use Rattle.history_model.specs.declared.stamped.StampedRow.{StampedRow}
+use Rattle.history_model.specs.InOrder.{Has}
+use Rattle.history_model.specs.Lists.{AreLists, listed}
+use Rattle.history_model.proofs.InOrder.{same_ascending}
+use Rattle.history_model.proofs.Keys.{stamped_total}
+use Rattle.history_model.proofs.Snapshots.{IsAscending-listed, Has-listed_cases, Has-listed_from}
+use Rattle.segment.specs.Records.{record_of, segment_of}
+use Rattle.segment.proofs.RecordLaws.{record_size}
+use Rattle.segment.proofs.SegmentLaws.{push_plain, no_rows_plain, segment_length_both}
+use Rattle.store_image.specs.Kept.{AreSegments}
 use Rattle.history_model.proofs.Receipts.{length-stamped}
 use Rattle.directory.specs.declared.entry.Entry.{Entry}
 use Rattle.directory.specs.declared.layout.Layout.{Layout}
@@ -27,7 +36,7 @@ use Rattle.history_store.specs.declared.attaching.NotPrepared.TheVariants as rea
 use Rattle.history_store.specs.declared.refusal.Refusal.TheVariants as refusals
 use Rattle.history_store.specs.Catalog.{Merge, reserved_by}
 use Rattle.history_store.specs.StoreValue.{StoreValue}
-use Rattle.history_store.specs.Attaching.{IsPreparedStore, HasPrepared, WhyNotPrepared, IsUntaken, IsPlacedFor, IsReserved, MayAttach, IsAttached, WhyNotAttached, PreparedIsAttached, left_of, room_for}
+use Rattle.history_store.specs.Attaching.{IsPreparedStore, HasPrepared, WhyNotPrepared, IsUntaken, IsPlacedFor, IsReserved, MayAttach, IsAttached, WhyNotAttached, PreparedIsAttached, RoomIsEnough, left_of, room_for}
 use Rattle.history_store.specs.Private.Attaching.{IsFitFor, HasNoFit}
 use Rattle.history_store.proofs.Counted.{rows_counted}
 use Rattle.history_store.proofs.Reopened.{represented_is_opened}
@@ -92,6 +101,42 @@ prepared_is_attached file rows s (Ok attached) is attaching =
     all_left is.entries attached.segment is.few (subst (λ (o : Option Entry). IsUntaken o attached.segment) source attaching.untaken) ∙ all_rows file rows is
 prepared_is_attached file rows s (Err e) is attaching =
     λ why same. refused file rows is why (subst (λ (f : AttachFault). WhyNotAttached (λ d. HasDirectory d file) (λ fault. IsNotOpened fault file) f s) same attaching).1
+
+-- ---- how long its records are
+
+listed_one : (rows : List StampedRow) → AreLists (rows ∷ []) → listed (rows ∷ []) ≡ rows
+listed_one rows are =
+    same_ascending stamped_total (listed (rows ∷ [])) rows (IsAscending-listed (rows ∷ [])) are.ascending.0
+    (λ s has. subst (λ (l : List StampedRow). Has l s) (append-nil rows) (Has-listed_cases (rows ∷ []) s has))
+    (λ s has. Has-listed_from (rows ∷ []) s are (subst (λ (l : List StampedRow). Has l s) (sym (append-nil rows)) has))
+
+one_record : (s : StampedRow) → length (segment_of (s ∷ [])) ≡ length (record_of s)
+one_record s =
+    let pushed = ap length (push_plain [] s) in
+    let none = ap length no_rows_plain in
+    omega (arith, pushed, none, length-append (segment_of []) (record_of s))
+
+same_lengths : (import other : ℕ) (rows : List RowValue) → length (segment_of (stamped import rows)) ≡ length (segment_of (stamped other rows))
+same_lengths import other [] = refl
+same_lengths import other (row ∷ rows) =
+    let s : StampedRow = record { row = row; import = import } in
+    let t : StampedRow = record { row = row; import = other } in
+    omega (arith, segment_length_both (s ∷ []) (stamped import rows), segment_length_both (t ∷ []) (stamped other rows), one_record s, one_record t, record_size s, record_size t, same_lengths import other rows)
+
+one_segment : (entries : List Entry) (lists : List (List StampedRow)) (source : Entry) → length entries ≤ 1 → Some source ≡ slice_get entries 0 → AreSegments entries lists → AreLists lists → length (segment_of (listed lists)) ≡ source.bytes
+one_segment [] lists source few is segments are = absurd (cc)
+one_segment (e ∷ []) [] source few is segments are = absurd segments
+one_segment (e ∷ []) (l ∷ []) source few is segments are =
+    let same : e ≡ source = cc in
+    ap (λ (x : List StampedRow). length (segment_of x)) (listed_one l are) ∙ segments.0.bytes ∙ ap (λ (x : Entry). x.bytes) same
+one_segment (e ∷ []) (l ∷ m ∷ lists) source few is segments are = absurd segments.1
+one_segment (e ∷ f ∷ entries) lists source few is segments are = absurd (omega (arith, few))
+
+pub room_is_enough : RoomIsEnough
+room_is_enough file rows source import is has =
+    let source_is = has.source_is ∙ ap (λ (l : List Entry). slice_get l 0) (same_entries file rows is has.d has.lists_it) in
+    same_lengths import 1 rows ∙ ap (λ (l : List StampedRow). length (segment_of l)) is.stands.rows
+    ∙ one_segment is.entries is.stands.lists source is.few source_is is.stands.says.kept.segments is.stands.says.kept.apart
 
 -- ---- where the rows of a prepared store go
 

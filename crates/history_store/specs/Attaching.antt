@@ -11,6 +11,7 @@ use Rattle.directory.specs.declared.layout.Layout.TheVariants as layouts
 use Rattle.directory.specs.Listings.{DirectoryValue, HasForm, IsEntry, IsListing, number_of}
 use Rattle.directory.specs.Places.{extent_of}
 use Rattle.directory.specs.Fit.{fit}
+use Rattle.segment.specs.Records.{segment_of}
 use Rattle.store_image.specs.declared.fault.LoadFault.{LoadFault}
 use Rattle.store_image.specs.declared.fault.LoadFault.TheVariants as loading
 use Rattle.store_image.specs.Answers.{IsNotOpened}
@@ -187,3 +188,10 @@ PreparedIsAttached D = (file : List ℕ) (rows : List RowValue) (s : StoreValue 
     → MatchResult result (λ attached. rows_left attached ≡ length rows)
     (λ e. (why : NotPrepared) → e ≡ faults.NotPrepared why
     → (why ≡ reasons.Unread loading.OutOfMemory) ⊎ (why ≡ reasons.Unread loading.DiskFault))
+
+-- The records of all rows of a prepared store are as long as its segment, under any import number:
+-- so an extent with room for the segment has room for those of the rows that are new.
+abbrev pub RoomIsEnough : Type 0
+RoomIsEnough = (file : List ℕ) (rows : List RowValue) (source : Entry) (import : ℕ)
+    → IsPreparedStore file rows → HasPrepared (λ d. HasDirectory d file) (Some source)
+    → length (segment_of (stamped import rows)) ≡ source.bytes

@@ -1,7 +1,7 @@
 //! Reading the segments that a directory lists, record by record.
 
 ghost use Rattle.std.specs.Prelude.{◌≡◌, ◌↔◌, ℕ, ◌+◌, ◌≤◌, [], ◌∷◌, ◌++◌, List, length, map};
-ghost use Rattle.std.specs.Prelude.{IsTrue, IfOk, IfErr, OnOk, MatchResult};
+ghost use Rattle.std.specs.Prelude.{◌⊎◌, IsTrue, IfOk, IfErr, OnOk, MatchResult};
 ghost use Rattle.std.specs.List.{AllByRecursion};
 ghost use Rattle.disk_model.specs.Disk.{raised_by};
 ghost use Rattle.disk_model.specs.View.{OnlyReads, Calls, Stays, AtMost};
@@ -10,6 +10,7 @@ ghost use Rattle.directory.specs.Listings.{HasSumOf, IsEntry, form_in};
 ghost use Rattle.directory.specs.Places.{extent_of};
 ghost use Rattle.checksum.specs.Crc32c.{crc32c};
 ghost use Rattle.segment.specs.Records.{segment_in};
+ghost use Rattle.store_image.specs.declared.fault.RowsFault.TheVariants as faults;
 ghost use Rattle.store_image.specs.Pieces.{HoldsAll};
 ghost use Rattle.store_image.specs.Kept.{IsSegmentOf, bytes_listed, pieces_of, segment_with};
 ghost use Rattle.history_model.specs.declared.stamped.StampedRow.{StampedRow as RowValue};
@@ -177,13 +178,30 @@ fn read_rows<D: Disk, B: SegmentBuilder>(
     'rows: for _count in 0..entry.rows {
         to = read_row(alloc, disk, window, to, imports, &mut builder)?;
     }
-    if to.at != entry.bytes {
-        return Err(RowsFault::Damaged);
-    }
-    if !entry.has_sum(to.crc) {
-        return Err(RowsFault::Damaged);
-    }
+    check_end(entry, entry.rows, to.at, to.crc)?;
     Ok(builder)
+}
+
+/// Checks, if all rows are read, that their records fill the extent and have the entry's checksum.
+/// The records end at this offset, and this is their CRC-32C.
+pub(crate) fn check_end(entry: Entry, rows: u32, at: u32, crc: u32) -> Result<(), RowsFault>
+    ensures ended { rows ≡ entry.rows → OnOk result (at ≡ entry.bytes) }
+    ensures sum { (bytes : List ℕ) → rows ≡ entry.rows → crc ≡ crc32c bytes
+        → OnOk result (HasSumOf entry.sums bytes) }
+    ensures refused { (bytes : List ℕ) → crc ≡ crc32c bytes
+        → IfErr result (λ e. (e ≡ faults.Damaged) × (rows ≡ entry.rows)
+        × ((at ≡ entry.bytes → ⊥) ⊎ (HasSumOf entry.sums bytes → ⊥))) }
+{
+    if rows != entry.rows {
+        return Ok(());
+    }
+    if at != entry.bytes {
+        return Err(RowsFault::Damaged);
+    }
+    if !entry.has_sum(crc) {
+        return Err(RowsFault::Damaged);
+    }
+    Ok(())
 }
 
 /// Reads the row whose record begins at `to.at`, after the rows that were read, into a builder.

@@ -1,7 +1,7 @@
 //! Reads the rows of a listed segment by steps, with the checks of an opening.
 
-ghost use Rattle.std.specs.Prelude.{◌≡◌, ◌⊎◌, ℕ, ◌+◌, ◌-◌, ◌<◌, ◌≤◌, ◌++◌, ◌∷◌, [], List, length, min};
-ghost use Rattle.std.specs.Prelude.{IfOk, IfErr, OnOk, MatchResult};
+ghost use Rattle.std.specs.Prelude.{◌≡◌, ℕ, ◌+◌, ◌-◌, ◌<◌, ◌≤◌, ◌++◌, ◌∷◌, [], List, length, min};
+ghost use Rattle.std.specs.Prelude.{IfOk, MatchResult};
 ghost use Rattle.disk_model.specs.View.{OnlyReads, AtMost};
 ghost use Rattle.fault_counts.specs.Counting.{Counts, CountsDiskFault};
 ghost use Rattle.fault_counts.specs.declared.fault.ReadFault.TheVariants as readfault;
@@ -10,16 +10,15 @@ ghost use Rattle.history_model.specs.declared.stamped.StampedRow.{StampedRow as 
 ghost use Rattle.directory.specs.declared.entry.Entry.{Entry as EntryValue};
 ghost use Rattle.directory.specs.Listings.{HasSumOf};
 ghost use Rattle.segment.specs.Records.{segment_in};
-ghost use Rattle.store_image.specs.declared.fault.RowsFault.TheVariants as faults;
 ghost use Rattle.store_image.specs.Kept.{IsSegmentOf, segment_with};
 ghost use Rattle.store_image.specs.Reader.{Sees, bytes_of};
 ghost use Rattle.store_image.specs.Reading.{AreNumbered, AreReadTo, IsAt};
 ghost use Rattle.store_image.specs.Marks.{IsMarkAfter, StartsWith, next_byte, rows_before};
-ghost use Rattle.store_image.specs.Private.Reading.{BeginsWith, CountsFault, IsNotNext};
+ghost use Rattle.store_image.specs.Private.Reading.{BeginsWith, CountsFault};
 ghost use Rattle.store_image.specs.Private.Reading.{IsUnreadAfter};
 
 use crate::fault::RowsFault;
-use crate::reading::{ReadTo, next_row};
+use crate::reading::{ReadTo, check_end, next_row};
 use crate::window::Window;
 use directory::Entry;
 use disk_model::Disk;
@@ -96,28 +95,6 @@ fn read_some<D: Disk>(
         to = next;
     }
     Ok((rows, to))
-}
-
-/// Checks, if all rows are read, that their records fill the extent and have the entry's checksum.
-/// The records end at this offset, and this is their CRC-32C.
-fn check_end(entry: Entry, rows: u32, at: u32, crc: u32) -> Result<(), RowsFault>
-    ensures ended { rows ≡ entry.rows → OnOk result (at ≡ entry.bytes) }
-    ensures sum { (bytes : List ℕ) → rows ≡ entry.rows → crc ≡ crc32c bytes
-        → OnOk result (HasSumOf entry.sums bytes) }
-    ensures refused { (bytes : List ℕ) → crc ≡ crc32c bytes
-        → IfErr result (λ e. (e ≡ faults.Damaged) × (rows ≡ entry.rows)
-        × ((at ≡ entry.bytes → ⊥) ⊎ (HasSumOf entry.sums bytes → ⊥))) }
-{
-    if rows != entry.rows {
-        return Ok(());
-    }
-    if at != entry.bytes {
-        return Err(RowsFault::Damaged);
-    }
-    if !entry.has_sum(crc) {
-        return Err(RowsFault::Damaged);
-    }
-    Ok(())
 }
 
 /// Reads up to `n` rows more of an entry's segment, from a mark on, through a buffer of fixed size.

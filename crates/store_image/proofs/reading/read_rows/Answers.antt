@@ -4,7 +4,7 @@ use Rattle.disk_model.specs.Disk.{Moments}
 use Rattle.blocks.specs.declared.extent.Extent.{Extent}
 use Rattle.store_image.specs.Reader.{bytes_of}
 use Rattle.directory.specs.Places.{extent_of}
-use Rattle.directory.specs.Listings.{HasSumOf, form_in}
+use Rattle.directory.specs.Listings.{form_in}
 use Rattle.checksum.specs.Crc32c.{crc32c}
 use Rattle.segment.specs.Records.{segment_in}
 use Rattle.store_image.specs.Kept.{segment_with}
@@ -12,7 +12,8 @@ use Rattle.history_model.specs.declared.stamped.StampedRow.{StampedRow}
 use Rattle.checksum.specs.declared.form.Form.{Form}
 use Rattle.store_image.specs.Reader.{Sees}
 use Rattle.store_image.specs.Private.Reading.{BeginsWith, IsNotNext}
-use Rattle.store_image.proofs.Segments.{none_read, none_begins, none_summed, not_next, wrong_end, wrong_sum, segment_found}
+use Rattle.store_image.proofs.Segments.{none_read, none_begins, none_summed, not_next, segment_found}
+use Rattle.store_image.proofs.ReadOn.{wrong_on}
 use Rattle.store_image.proofs.reading.read_rows.Goals as goal
 
 -- the bytes are those from before
@@ -90,14 +91,6 @@ rows-preserved g c =
       other_calls = read.meters.other_calls ∙ inv.other_calls;
     }
 
-pub returns-then-to-entry-clause-exact : goal.returns-then-to-entry-clause-exact
-returns-then-to-entry-clause-exact g c honest =
-    let inv = c.rows.invariant in
-    let ended = c.rows-test.false in
-    let most = c.rows.auto._count-end in
-    let count = inv.count in
-    wrong_end c.rows.to c.args.imports c.args.entry (g.B.SegmentBuilder.rows c.rows.builder) _ inv.read (omega (arith, ended, most, count)) c.if-to-entry.true (inv.begins honest)
-
 pub returns-in_err-to-clause-meters : goal.returns-in_err-to-clause-meters
 returns-in_err-to-clause-meters g c = record {
   moments = search rules;
@@ -107,43 +100,6 @@ returns-in_err-to-clause-meters g c = record {
       let inv = c.rows.invariant in
       let extent = ap (λ (x : Extent). x.bytes) (c.in_err-to.ensures.extent ∙ inv.extent) in
       omega (arith, inv.bytes_read, c.in_err-to.ensures.meters.bytes_read, c.read_row.new.window.within, extent);
-  other_calls = search rules;
-}
-
-pub returns-then-to-entry-clause-meters : goal.returns-then-to-entry-clause-meters
-returns-then-to-entry-clause-meters g c = record {
-  moments = search rules;
-  honesty = search rules;
-  failures = search rules;
-  bytes_read =
-      let inv = c.rows.invariant in
-      let extent = ap (λ (x : Extent). x.bytes) inv.extent in
-      omega (arith, inv.bytes_read, c.rows.window.within, extent);
-  other_calls = search rules;
-}
-
-pub returns-then-not-has_sum-clause-exact : goal.returns-then-not-has_sum-clause-exact
-returns-then-not-has_sum-clause-exact g c honest =
-    let inv = c.rows.invariant in
-    let ended = c.rows-test.false in
-    let most = c.rows.auto._count-end in
-    let count = inv.count in
-    let differs : HasSumOf c.args.entry.sums (segment_with c.args.entry (g.B.SegmentBuilder.rows c.rows.builder)) → ⊥ =
-    λ has. let yes = (c.has_sum.ensures _ inv.summed).1 has in let no = c.if-not-has_sum.true in absurd cc in
-    wrong_sum c.rows.to c.args.imports c.args.entry (g.B.SegmentBuilder.rows c.rows.builder) _ inv.read (omega (arith, ended, most, count)) differs (inv.begins honest)
-
-pub returns-clause-sum : goal.returns-clause-sum
-returns-clause-sum g c = (c.has_sum.ensures _ c.rows.invariant.summed).0 c.if-not-has_sum.false
-
-pub returns-then-not-has_sum-clause-meters : goal.returns-then-not-has_sum-clause-meters
-returns-then-not-has_sum-clause-meters g c = record {
-  moments = search rules;
-  honesty = search rules;
-  failures = search rules;
-  bytes_read =
-      let inv = c.rows.invariant in
-      let extent = ap (λ (x : Extent). x.bytes) inv.extent in
-      omega (arith, inv.bytes_read, c.rows.window.within, extent);
   other_calls = search rules;
 }
 
@@ -159,10 +115,38 @@ returns-clause-meters g c = record {
   other_calls = search rules;
 }
 
+pub returns-in_err-check_end-clause-exact : goal.returns-in_err-check_end-clause-exact
+returns-in_err-check_end-clause-exact g c honest =
+    let p = err_from_is_err_and c.from_residual-in_err-check_end.result c.from_residual-in_err-check_end.ensures.1 in
+    let inv = c.rows.invariant in
+    let rows = (g.B.SegmentBuilder.rows c.rows.builder) in
+    let ended = c.rows-test.false in
+    let most = c.rows.auto._count-end in
+    let count = inv.count in
+    let refused = c.in_err-check_end.ensures.refused (segment_with c.args.entry rows) inv.summed in
+    rw (p.1, p.2, refused.0) (wrong_on c.rows.to c.args.imports c.args.entry rows _ inv.read (omega (arith, ended, most, count)) refused.2 (inv.begins honest))
+
+pub returns-in_err-check_end-clause-meters : goal.returns-in_err-check_end-clause-meters
+returns-in_err-check_end-clause-meters g c =
+    let p = err_from_is_err_and c.from_residual-in_err-check_end.result c.from_residual-in_err-check_end.ensures.1 in
+    let inv = c.rows.invariant in
+    let refused = c.in_err-check_end.ensures.refused (segment_with c.args.entry (g.B.SegmentBuilder.rows c.rows.builder)) inv.summed in
+    let extent = ap (λ (x : Extent). x.bytes) inv.extent in
+    rw (p.1, p.2, refused.0) (record {
+      moments = inv.moments;
+      honesty = inv.honesty;
+      failures = inv.failures;
+      bytes_read = omega (arith, inv.bytes_read, c.rows.window.within, extent);
+      other_calls = inv.other_calls;
+    })
+
+pub returns-clause-sum : goal.returns-clause-sum
+returns-clause-sum g c = c.in_ok-check_end.ensures.sum _ refl c.rows.invariant.summed
+
 pub returns-clause-found : goal.returns-clause-found
 returns-clause-found g c =
     let inv = c.rows.invariant in
     let ended = c.rows-test.false in
     let most = c.rows.auto._count-end in
     let count = inv.count in
-    segment_found c.rows.to c.args.imports c.args.entry (g.B.SegmentBuilder.rows c.rows.builder) inv.read (omega (arith, c.if-to-entry.false)) (omega (arith, ended, most, count))
+    segment_found c.rows.to c.args.imports c.args.entry (g.B.SegmentBuilder.rows c.rows.builder) inv.read (c.in_ok-check_end.ensures.ended refl) (omega (arith, ended, most, count))

@@ -1,4 +1,4 @@
-use Rattle.std.proofs.Common.{◌≡◌, ℕ, ◌+◌, ◌≤◌, ◌++◌, ◌∷◌, [], List, length, refl, sym, ap, subst, ◌∙◌, arith, append-nil, length-append}
+use Rattle.std.proofs.Common.{◌≡◌, ℕ, ◌≤◌, ◌++◌, ◌∷◌, [], List, length, refl, sym, ap, subst, ◌∙◌, arith}
 use Rattle.std.proofs.lemmas.Result.{err_from_is_err_and}
 use Rattle.history_model.specs.declared.stamped.StampedRow.{StampedRow}
 use Rattle.disk_model.specs.Disk.{Moments}
@@ -6,11 +6,9 @@ use Rattle.blocks.specs.declared.extent.Extent.{Extent}
 use Rattle.checksum.specs.Crc32c.{crc32c}
 use Rattle.checksum.specs.declared.form.Form.{Form}
 use Rattle.segment.specs.Records.{segment_in}
-use Rattle.store_image.specs.declared.fault.RowsFault.{RowsFault}
-use Rattle.store_image.specs.declared.fault.RowsFault.TheVariants as faults
 use Rattle.store_image.specs.Reader.{Sees, bytes_of}
 use Rattle.store_image.specs.Reading.{AreReadTo}
-use Rattle.store_image.specs.Private.Reading.{BeginsWith, IsNotNext, IsUnreadAfter}
+use Rattle.store_image.specs.Private.Reading.{BeginsWith, IsNotNext}
 use Rattle.store_image.proofs.RowsRead.{one_more}
 use Rattle.store_image.proofs.ReadOn.{pushed_on, none_on}
 use Rattle.store_image.proofs.reading_on.read_some.Goals as goal
@@ -23,22 +21,22 @@ pub rows-init : goal.rows-init
 rows-init g c =
     let none = c.new-rows.ensures.items in
     record {
-  count = ap length none;
-  read = λ before is. none_on (λ (l : List StampedRow). AreReadTo c.args.to c.args.imports l) before _ none is;
-  summed = λ before is. none_on (λ (l : List StampedRow). c.args.to.crc ≡ crc32c (segment_in c.args.window.now.form l)) before _ none is;
-  extent = refl;
-  form_is = refl;
-  from = c.requires.from;
-  reached = c.requires.reached;
-  within = c.requires.within;
-  sees = λ honest sees. sees;
-  begins = λ honest sees before read begins. none_on (λ (l : List StampedRow). BeginsWith c.args.window.now.form l (bytes_of c.args.window.now.extent (g.D.Disk.view c.args.disk.now).moments.state.now)) before _ none begins;
-  moments = λ honest. refl;
-  honesty = (λ h. h, λ h. h);
-  failures = refl;
-  bytes_read = omega arith;
-  other_calls = refl;
-}
+      count = ap length none;
+      read = λ before is. none_on (λ (l : List StampedRow). AreReadTo c.args.to c.args.imports l) before _ none is;
+      summed = λ before is. none_on (λ (l : List StampedRow). c.args.to.crc ≡ crc32c (segment_in c.args.window.now.form l)) before _ none is;
+      extent = refl;
+      form_is = refl;
+      from = c.requires.from;
+      reached = c.requires.reached;
+      within = c.requires.within;
+      sees = λ honest sees. sees;
+      begins = λ honest sees before read begins. none_on (λ (l : List StampedRow). BeginsWith c.args.window.now.form l (bytes_of c.args.window.now.extent (g.D.Disk.view c.args.disk.now).moments.state.now)) before _ none begins;
+      moments = λ honest. refl;
+      honesty = (λ h. h, λ h. h);
+      failures = refl;
+      bytes_read = omega arith;
+      other_calls = refl;
+    }
 
 -- what the next row is read by, of the bytes from before
 pub rows-preserved : goal.rows-preserved
