@@ -1,13 +1,17 @@
 -- Taking the rows of an attached import: which are new, where their records go, and the results of
 -- a step.
 use Rattle.std.specs.Prelude.{◌≡◌, ◌≢◌, ◌⊎◌, ℕ, ◌+◌, ◌-◌, ◌≤◌, min, true, false, not, List, [], ◌∷◌, ◌++◌}
-use Rattle.std.specs.Prelude.{length, map, Option, Some, None, Result, Ok, Err}
+use Rattle.std.specs.Prelude.{length, map, Option, Some, None, Result, Ok, Err, IfErr}
+use Rattle.std.specs.Option.{option_map, option_to_list}
 use Rattle.std.specs.List.{filter, sum_by, AllByRecursion}
-use Rattle.fault_counts.specs.Counting.{HasRisen, CountsDiskFault}
+use Rattle.fault_counts.specs.Counting.{Counts, CountsDiskFault, HasRisen}
 use Rattle.fault_counts.specs.declared.fault.ReadFault.{ReadFault}
 use Rattle.fault_counts.specs.declared.fault.ReadFault.TheVariants as readfault
-use Rattle.disk_model.specs.View.{DiskView}
+use Rattle.disk_model.specs.View.{DiskView, Calls, AtMost, Unsaid}
+use Rattle.lru.specs.LruCache.{LruCache}
 use Rattle.blocks.specs.declared.extent.Extent.{Extent}
+use Rattle.blocks.specs.Calls.{call_count}
+use Rattle.blocks.specs.Extents.{byte_range}
 use Rattle.checksum.specs.Crc32c.{crc32c}
 use Rattle.rf2_values.specs.declared.key.Key.{Key}
 use Rattle.rf2_values.specs.Row.{RowValue}
@@ -15,13 +19,14 @@ use Rattle.rf2_values.specs.Key.{key_of}
 use Rattle.history_model.specs.declared.stamped.StampedRow.{StampedRow}
 use Rattle.history_model.specs.InOrder.{IsAscending}
 use Rattle.history_model.specs.History.{History, full, stamped, stamped_cmp}
+use Rattle.directory.specs.declared.entry.Entry.{Entry}
 use Rattle.directory.specs.declared.layout.Layout.TheVariants as layouts
 use Rattle.directory.specs.Listings.{form_of}
 use Rattle.segment.specs.Records.{segment_in}
 use Rattle.segment_index.specs.declared.words.Words.{Words}
 use Rattle.import_check.specs.Known.{IsUnknown, IsKnown, MayBeKnown, already_known, has_key}
 use Rattle.store_image.specs.Ahead.{BeginsWith}
-use Rattle.store_image.specs.Marks.{IsMarkAfter, StartsWith}
+use Rattle.store_image.specs.Marks.{IsMarkAfter, StartsWith, next_byte}
 use Rattle.store_image.specs.Reading.{AreNumbered, IsAt}
 use Rattle.history_store.specs.declared.attached.AttachedImport.{AttachedImport}
 use Rattle.history_store.specs.declared.attached.AttachedSegment.{AttachedSegment}
@@ -31,6 +36,8 @@ use Rattle.history_store.specs.declared.refusal.Refusal.{Refusal}
 use Rattle.history_store.specs.declared.refusal.Refusal.TheVariants as refusals
 use Rattle.history_store.specs.Answers.{CountsRefusal, IsRefused}
 use Rattle.history_store.specs.Attaching.{IsAttachedTo, rows_left}
+use Rattle.history_store.specs.Queries.{LooksUpAndForgets, is_listed}
+use Rattle.history_store.specs.Reading.{row_cost}
 use Rattle.history_store.specs.Prepared.{IsNotSpent}
 use Rattle.history_store.specs.StoreValue.{StoreValue, last_import, last_epoch}
 
@@ -223,3 +230,34 @@ CountsUnread _ old new = new ≡ old
 abbrev pub CountsDamagedRows : TakeFault → ℕ → ℕ → Type 0
 CountsDamagedRows (faults.Refused refusals.Damaged) old new = HasRisen old new
 CountsDamagedRows _ old new = new ≡ old
+
+-- The meters of a step, as to the store's own disk and cache: it makes one call besides reads at
+-- most, a write; after an error none, unless the disk failed. Blocks of these segments are looked
+-- up in the cache, from which then those of the output's extent are dropped, or none.
+pub record IsMeteredTaking {T : Type 0} (result : Result T TakeFault) (entries : List Entry)
+    (output : Option Extent) (old new : DiskView) (cache cached : LruCache ℕ (List ℕ))
+    : Type 0 where
+  pub counts : Calls (Counts CountsTaking result) Unsaid (AtMost 1) old new
+  pub uncalled : IfErr result
+      (λ e. e ≢ faults.Refused refusals.DiskFault → new.other_calls ≡ old.other_calls)
+  pub calls : old.is_honest → call_count new.moments ≤ call_count old.moments + 1
+  pub looked_up : LooksUpAndForgets (is_listed entries) output cache cached
+      old.bytes_read new.bytes_read
+
+-- of the known rows only those were read that have the keys of at most `n` rows, each once at most
+pub record ReadsFew (n : ℕ) (known : List RowValue) (before after : ℕ) : Type 0 where
+  pub rows : List RowValue
+  pub few : length rows ≤ n
+  pub bytes : after ≤ before + sum_by row_cost (already_known known rows)
+
+-- how many bytes of the prepared segment are left to read
+abbrev pub bytes_left : Option AttachedSegment → ℕ
+bytes_left None = 0
+bytes_left (Some segment) = segment.source.bytes - next_byte segment.mark
+
+-- where the records of the new rows go, if there is a prepared segment
+abbrev pub output_extents : Option AttachedSegment → Option Extent
+output_extents segment = option_map output_extent segment
+
+abbrev pub output_ranges : Option AttachedSegment → List (ℕ × ℕ)
+output_ranges segment = map byte_range (option_to_list (output_extents segment))

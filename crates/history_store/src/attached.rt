@@ -2,6 +2,7 @@
 
 ghost use Rattle.std.specs.Prelude.{◌≡◌, ◌≤◌};
 
+use blocks::Extent;
 use directory::Entry;
 use segment_index::{IndexBuilder, StoreIndex};
 use std::snapshot::Snapshot;
@@ -49,6 +50,20 @@ impl AttachedImport {
         match &self.segment {
             None => 0,
             Some(segment) => segment.source.rows - segment.taken,
+        }
+    }
+}
+
+impl AttachedSegment {
+    ghost use Rattle.history_store.specs.Taking.{output_extent};
+
+    /// Where the records of the new rows go.
+    pub(crate) fn extent(&self) -> Extent
+        ensures { result ≡ output_extent self.now }
+    {
+        Extent {
+            first: self.first,
+            bytes: self.source.bytes,
         }
     }
 }

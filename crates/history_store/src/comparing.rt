@@ -99,3 +99,103 @@ fn compare_rows<K: Known>(
     }
     Ok(fresh)
 }
+
+/// Those of rows in key order whose keys the index doesn't list, as rows of an import.
+fn compare_listed<R: RowReader>(
+    alloc: Global,
+    rows: Vec<StampedRow>,
+    import: u32,
+    index: &Index,
+    reader: &mut R,
+    pin: u32,
+) -> Result<Vec<StampedRow>, TakeFault>
+    ensures exact { (R.view reader.old).is_honest → Lists index.now (R.view reader.old).lists
+        → Early pin (R.view reader.old).lists → MatchResult result
+        (λ fresh. AreCompared (rows_of (R.view reader.old).lists)
+        (Has (rows_of (R.view reader.old).lists)) (without_imports rows.items) import fresh.items)
+        (IsNotCompared (rows_of (R.view reader.old).lists)
+        (Has (rows_of (R.view reader.old).lists)) (without_imports rows.items)) }
+    ensures by_key { Lists index.now (R.view reader.old).lists → Early pin (R.view reader.old).lists
+        → MatchResult result
+        (λ fresh. AreCompared (rows_of (R.view reader.old).lists)
+        (MayBeRead (R.view reader.old).may_be) (without_imports rows.items) import fresh.items)
+        (IsNotCompared (rows_of (R.view reader.old).lists) (MayBeRead (R.view reader.old).may_be)
+        (without_imports rows.items)) }
+    ensures undamaged { (R.view reader.old).is_honest → Lists index.now (R.view reader.old).lists
+        → Early pin (R.view reader.old).lists
+        → IfErr result (λ e. e ≢ faults.Refused refusals.Damaged) }
+    ensures work { Lists index.now (R.view reader.old).lists → Early pin (R.view reader.old).lists
+        → IsAscending stamped_cmp rows.items
+        → (R.view reader.new).work ≤ (R.view reader.old).work
+        + sum_by R.cost (already_known (rows_of (R.view reader.old).lists)
+        (without_imports rows.items)) }
+    ensures failures { Counts CountsTaking result
+        (R.view reader.old).disk_faults (R.view reader.new).disk_faults }
+    ensures honesty { (R.view reader.old).is_honest → Lists index.now (R.view reader.old).lists
+        → Early pin (R.view reader.old).lists → (R.view reader.new).is_honest }
+    ensures stays { R.stays reader.old reader.new }
+{
+    let mut hints = Hints::new(alloc, index.lists())?;
+    let mut known = ListedRows {
+        index,
+        reader,
+        pin,
+        hints: &mut hints,
+    };
+    compare_rows(alloc, rows, import, &mut known)
+}
+
+impl<D: Disk> Store<D> {
+    ghost use Rattle.history_model.specs.History.{full};
+    ghost use Rattle.history_store.specs.Answers.{IsStill};
+    ghost use Rattle.history_store.specs.Queries.{ReadsThroughCache};
+    ghost use Rattle.history_store.specs.Reading.{row_cost};
+    ghost use Rattle.history_store.specs.Stored.{IsStored};
+    ghost use Rattle.history_store.specs.StoreValue.{last_import};
+    ghost use Rattle.history_store.specs.Taking.{IsRefusedStep};
+
+    /// Those of rows in key order whose keys the store doesn't have, as rows of the next import.
+    pub(crate) fn compare(&mut self, rows: Vec<StampedRow>) -> Result<Vec<StampedRow>, TakeFault>
+        requires still { self.old.needs_reopen ≡ false }
+        requires left { self.old.history.imports < last_import }
+        requires ascending { IsAscending stamped_cmp rows.items }
+        ensures exact { (D.view self.old.disk).is_honest → MatchResult result
+            (λ fresh. AreCompared (full self.old.history) (Has (full self.old.history))
+            (without_imports rows.items) (self.old.history.imports + 1) fresh.items)
+            (IsNotCompared (full self.old.history) (Has (full self.old.history))
+            (without_imports rows.items)) }
+        // On every disk each row with a known key may be stored.
+        ensures by_key { MatchResult result
+            (λ fresh. AreCompared (full self.old.history) (IsStored D.view self.old)
+            (without_imports rows.items) (self.old.history.imports + 1) fresh.items)
+            (IsNotCompared (full self.old.history) (IsStored D.view self.old)
+            (without_imports rows.items)) }
+        ensures undamaged { (D.view self.old.disk).is_honest
+            → IfErr result (λ e. e ≢ faults.Refused refusals.Damaged) }
+        ensures words { self.new.words ≡ self.old.words }
+        ensures still { IfOk result (λ fresh. IsStill self.old self.new) }
+        ensures closed { IfErr result (λ e. IsRefusedStep e self.old self.new) }
+        ensures looked_up { ReadsThroughCache D.view self.old self.new }
+        ensures meters { OnlyReads (Counts CountsTaking result) (AtMost (sum_by row_cost
+            (already_known (full self.old.history) (without_imports rows.items))))
+            (D.view self.old.disk) (D.view self.new.disk) }
+    {
+        let pin = self.directory.imports();
+        let mut reader = DiskRows::new(
+            &mut self.disk,
+            &mut self.cache,
+            &self.directory,
+            &self.index,
+        );
+        let index = self.index.places();
+        match compare_listed(self.alloc, rows, pin + 1, index, &mut reader, pin) {
+            Ok(fresh) => Ok(fresh),
+            Err(fault) => {
+                if matches!(fault, TakeFault::Refused(Refusal::DiskFault)) {
+                    self.needs_reopen = true;
+                }
+                Err(fault)
+            }
+        }
+    }
+}

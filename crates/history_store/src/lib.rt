@@ -22,6 +22,7 @@ mod merge_in_progress;
 mod placing;
 mod preparing;
 mod publishing;
+mod putting;
 mod queries;
 mod read_index;
 mod reading;

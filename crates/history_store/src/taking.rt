@@ -1,11 +1,31 @@
 //! Taking the rows of an attached import.
 
-ghost use Rattle.std.specs.Prelude.{◌≡◌};
+ghost use Rattle.std.specs.Prelude.{◌≡◌, ◌≢◌, ◌+◌, ◌≤◌, ◌<◌, ◌++◌, ◌∷◌, [], false, min, List, length};
+ghost use Rattle.std.specs.Prelude.{IfOk, IfErr, OnOk};
+ghost use Rattle.std.specs.List.{AllByRecursion};
+ghost use Rattle.disk_model.specs.View.{OnlyReads, AtMost};
+ghost use Rattle.fault_counts.specs.Counting.{Counts};
+ghost use Rattle.blocks.specs.Extents.{byte_range};
+ghost use Rattle.blocks.specs.Outside.{SameOutside};
+ghost use Rattle.history_model.specs.declared.stamped.StampedRow.{StampedRow as RowValue};
+ghost use Rattle.history_model.specs.InOrder.{Has, IsAscending};
+ghost use Rattle.history_model.specs.History.{stamped_cmp};
+ghost use Rattle.segment.specs.Records.{segment_of};
+ghost use Rattle.history_store.specs.Attaching.{rows_left};
+ghost use Rattle.history_store.specs.declared.taking.TakeFault.TheVariants as faults;
+ghost use Rattle.history_store.specs.declared.refusal.Refusal.TheVariants as refusals;
 
+use crate::attached::{AttachedImport, AttachedSegment};
+use crate::preparing::is_spent;
+use crate::putting::put;
 use crate::refusal::Refusal;
+use crate::store::Store;
+use disk_model::Disk;
 use fault_counts::ReadFault;
+use history_model::StampedRow;
 use rf2_values::Key;
 use std::alloc::{AllocError, AllocFailed};
+use store_image::read_on;
 use thiserror::Error;
 
 /// Why rows of an attached import aren't taken.
@@ -54,5 +74,63 @@ impl<T: Drop> From<AllocFailed<T>> for TakeFault {
 
     fn from(_: AllocFailed<T>) -> TakeFault {
         TakeFault::Refused(Refusal::OutOfMemory)
+    }
+}
+
+impl<D: Disk> Store<D> {
+    ghost use Rattle.history_model.specs.History.{full};
+    ghost use Rattle.blocks.specs.Extents.{block_limit};
+    ghost use Rattle.directory.specs.declared.layout.Layout.TheVariants as layouts;
+    ghost use Rattle.history_store.specs.Answers.{IsRefused, IsStill, KeepsMoments};
+    ghost use Rattle.history_store.specs.Attaching.{IsPlacedFor};
+    ghost use Rattle.history_store.specs.Prepared.{IsNotSpent};
+    ghost use Rattle.history_store.specs.Private.Taking.{IsPut, IsMeteredPut};
+    ghost use Rattle.history_store.specs.Taking.{HasOutput, output_extent};
+    ghost use Rattle.store_image.specs.Images.{RepresentsAs};
+    ghost use Rattle.history_store.specs.Crashes.{IsCrashSafe};
+    ghost use Rattle.history_store.specs.Stored.{IsStored};
+    ghost use Rattle.history_store.specs.Taking.{HasTakenOf, IsTakingOf, IsMeteredTaking};
+    ghost use Rattle.history_store.specs.Taking.{CountsUnread, ReadsFew, bytes_left};
+    ghost use Rattle.history_store.specs.Taking.{output_extents, output_ranges};
+
+    /// Adds the new rows of a step to an attached segment, and writes their records in its place.
+    fn put_rows(
+        &mut self,
+        segment: &mut AttachedSegment,
+        fresh: &[StampedRow],
+    ) -> Result<(), Refusal>
+        requires still { self.old.needs_reopen ≡ false }
+        requires layout { self.old.catalog.layout ≡ layouts.Three }
+        requires placed { IsPlacedFor self.old.catalog segment.old }
+        requires ascending { IsAscending stamped_cmp fresh.now }
+        requires from_one { AllByRecursion (λ s. 1 ≤ s.import) fresh.now }
+        requires inside { length (segment_of (segment.old.output.rows ++ fresh.now))
+            ≤ segment.old.source.bytes }
+        ensures put { IsPut result fresh.now segment.old segment.new }
+        ensures still { IfOk result (λ done. IsStill self.old self.new) }
+        ensures closed { IfErr result (λ e. IsRefused e self.old self.new) }
+        ensures words { self.new.words ≡ self.old.words }
+        ensures output { (D.view self.old.disk).is_honest
+            → HasOutput segment.old (D.view self.old.disk).moments.state.now
+            → OnOk result (HasOutput segment.new (D.view self.new.disk).moments.state.now) }
+        ensures crash { IsCrashSafe D.view
+            (RepresentsAs self.old.catalog.layout self.old.history) self.old self.new }
+        ensures refused { (D.view self.old.disk).is_honest
+            → KeepsMoments D.view result self.old self.new }
+        ensures elsewhere { (D.view self.old.disk).is_honest → OnOk result
+            (SameOutside (byte_range (output_extent segment.old) ∷ [])
+            (D.view self.old.disk).moments.state.now (D.view self.new.disk).moments.state.now) }
+        ensures meters { IsMeteredPut result (output_extent segment.old)
+            (D.view self.old.disk) (D.view self.new.disk) self.old.cache self.new.cache }
+    {
+        match put(self.alloc, &mut self.disk, &mut self.cache, segment, fresh) {
+            Ok(()) => Ok(()),
+            Err(refusal) => {
+                if matches!(refusal, Refusal::DiskFault) {
+                    self.needs_reopen = true;
+                }
+                Err(refusal)
+            }
+        }
     }
 }
