@@ -24,6 +24,10 @@ pub mod Imported
 pub mod Reopened
 pub mod PreparedStores
 pub mod ReadRows
+pub mod ComparedRows
+pub mod PutRows
+pub mod AttachedRows
+pub mod TakenRows
 pub mod SteppedMerge
 pub mod SteppedStore
 pub mod StepWrites

@@ -80,15 +80,19 @@ pub record HasContradicted (known : List RowValue) (Stands : RowValue → Type 0
   pub each : AllByRecursion (IsNewOrStands known Stands) before
   pub contradicted : IsContradicted known Stands row key
 
--- why a known row can't be read: if memory doesn't run out, it is one that has the key of a row
+-- the refusal is due to a read of a known row
+abbrev pub IsOfReading : Refusal → Type 0
+IsOfReading e = (e ≡ refusals.DiskFault) ⊎ (e ≡ refusals.Damaged)
+
+-- why rows can't be compared: one is contradicted, or memory runs out, or a known row that has the
+-- key of one can't be read
 abbrev pub IsNotCompared : List RowValue → (Stands : RowValue → Type 0) → List RowValue → TakeFault
     → Type 0
 IsNotCompared known Stands rows (faults.Contradiction key) =
     HasContradicted known Stands rows key
-IsNotCompared known Stands rows (faults.Refused refusals.OutOfMemory) = Unit {0}
-IsNotCompared known Stands rows (faults.Refused refusals.DiskFault) = already_known known rows ≢ []
-IsNotCompared known Stands rows (faults.Refused refusals.Damaged) = already_known known rows ≢ []
-IsNotCompared known Stands rows _ = ⊥
+IsNotCompared known Stands rows (faults.Refused e) = (e ≡ refusals.OutOfMemory)
+    ⊎ (IsOfReading e × (already_known known rows ≢ []))
+IsNotCompared known Stands rows (faults.Unread fault) = ⊥
 
 -- these are the rows with new keys, with an import's number, and each other row stands
 pub record AreCompared (known : List RowValue) (Stands : RowValue → Type 0) (rows : List RowValue)

@@ -12,7 +12,7 @@ ghost use Rattle.history_model.specs.History.{stamped_cmp};
 ghost use Rattle.as_of_index.specs.Places.{Lists};
 ghost use Rattle.import_check.specs.Known.{IsUnknown, IsKnown, LeavesKnown, already_known};
 ghost use Rattle.history_store.specs.Private.Reading.{rows_of, Early, MayBeRead};
-ghost use Rattle.history_store.specs.Private.Taking.{IsVerdictOf};
+ghost use Rattle.history_store.specs.Private.Taking.{IsTakenUp, IsVerdictOf};
 ghost use Rattle.history_store.specs.Taking.{AreCompared, IsNotCompared, without_imports};
 ghost use Rattle.history_store.specs.Taking.{CountsTaking, CountsDamagedRows};
 ghost use Rattle.history_store.specs.declared.taking.TakeFault.TheVariants as faults;
@@ -63,6 +63,40 @@ fn is_new<K: Known>(alloc: Global, row: &Row, known: &mut K) -> Result<bool, Tak
     }
 }
 
+/// Compares a row with the known ones. One with a new key is added to the new rows, as a row of an
+/// import.
+fn take_up<K: Known>(
+    alloc: Global,
+    stamped: StampedRow,
+    import: u32,
+    known: &mut K,
+    fresh: &mut Vec<StampedRow>,
+) -> Result<(), TakeFault>
+    ensures exact { (K.view known.old).is_honest → (K.view known.old).is_sound
+        → IsTakenUp (K.view known.old).rows (Has (K.view known.old).rows) import stamped
+        fresh.old.items fresh.new.items result }
+    ensures by_key { (K.view known.old).is_sound
+        → IsTakenUp (K.view known.old).rows (K.view known.old).may_be import stamped
+        fresh.old.items fresh.new.items result }
+    ensures undamaged { (K.view known.old).is_honest
+        → IfErr result (λ e. e ≢ faults.Refused refusals.Damaged) }
+    ensures work { (K.view known.old).is_sound → (other : RowValue)
+        → Has (K.view known.old).rows other → key_of other ≡ key_of stamped.row
+        → (K.view known.new).work ≤ (K.view known.old).work + K.cost other }
+    ensures work_unknown { (K.view known.old).is_sound
+        → IsUnknown (K.view known.old).rows (key_of stamped.row)
+        → (K.view known.new).work ≤ (K.view known.old).work }
+    ensures known { LeavesKnown CountsTaking CountsDamagedRows result
+        (K.view known.old) (K.view known.new) }
+    ensures stays { K.stays known.old known.new }
+{
+    let row = stamped.row;
+    if is_new(alloc, &row, known)? {
+        fresh.push(StampedRow { row, import })?;
+    }
+    Ok(())
+}
+
 /// Those of rows in key order whose keys no known row has, as rows of an import. Each key is looked
 /// up once.
 fn compare_rows<K: Known>(
@@ -92,10 +126,7 @@ fn compare_rows<K: Known>(
 {
     let mut fresh = Vec::new(alloc);
     for stamped in ShrinkingList::new(rows) {
-        let row = stamped.row;
-        if is_new(alloc, &row, known)? {
-            fresh.push(StampedRow { row, import })?;
-        }
+        take_up(alloc, stamped, import, known, &mut fresh)?;
     }
     Ok(fresh)
 }

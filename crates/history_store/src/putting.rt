@@ -119,6 +119,7 @@ pub(crate) fn put<D: Disk>(
     requires from_one { AllByRecursion (λ s. 1 ≤ s.import) fresh.now }
     requires inside { length (segment_of (segment.old.output.rows ++ fresh.now))
         ≤ segment.old.source.bytes }
+    requires short { segment.old.source.bytes < 2 ^ 32 }
     requires below_limit { end_block (output_extent segment.old) ≤ block_limit }
     requires form { HasForm layouts.Three segment.old.source }
     ensures put { IsPut result fresh.now segment.old segment.new }

@@ -1,6 +1,6 @@
 //! Taking the rows of an attached import.
 
-ghost use Rattle.std.specs.Prelude.{◌≡◌, ◌≢◌, ◌+◌, ◌≤◌, ◌<◌, ◌++◌, ◌∷◌, [], false, min, List, length};
+ghost use Rattle.std.specs.Prelude.{◌≡◌, ◌≢◌, ◌+◌, ◌≤◌, ◌<◌, ◌++◌, ◌∷◌, [], None, false, min, List, length};
 ghost use Rattle.std.specs.Prelude.{IfOk, IfErr, OnOk};
 ghost use Rattle.std.specs.List.{AllByRecursion};
 ghost use Rattle.disk_model.specs.View.{OnlyReads, AtMost};
@@ -80,7 +80,6 @@ impl<T: Drop> From<AllocFailed<T>> for TakeFault {
 impl<D: Disk> Store<D> {
     ghost use Rattle.history_model.specs.History.{full};
     ghost use Rattle.blocks.specs.Extents.{block_limit};
-    ghost use Rattle.directory.specs.declared.layout.Layout.TheVariants as layouts;
     ghost use Rattle.history_store.specs.Answers.{IsRefused, IsStill, KeepsMoments};
     ghost use Rattle.history_store.specs.Attaching.{IsPlacedFor};
     ghost use Rattle.history_store.specs.Prepared.{IsNotSpent};
@@ -100,7 +99,7 @@ impl<D: Disk> Store<D> {
         fresh: &[StampedRow],
     ) -> Result<(), Refusal>
         requires still { self.old.needs_reopen ≡ false }
-        requires layout { self.old.catalog.layout ≡ layouts.Three }
+        requires no_merge { self.old.catalog.merge ≡ None }
         requires placed { IsPlacedFor self.old.catalog segment.old }
         requires ascending { IsAscending stamped_cmp fresh.now }
         requires from_one { AllByRecursion (λ s. 1 ≤ s.import) fresh.now }
@@ -132,5 +131,79 @@ impl<D: Disk> Store<D> {
                 Err(refusal)
             }
         }
+    }
+
+    /// Takes up to `n` more rows of an attached import, and returns how many are left. They are read
+    /// from the prepared store, with the checks of an opening, and compared with the rows of this
+    /// store; the records of the new ones are written by one write. All memory is allocated before
+    /// the write. An error leaves the attached import as it was.
+    pub fn take_rows<P: Disk>(
+        &mut self,
+        attached: &mut AttachedImport,
+        prepared: &mut P,
+        n: u32,
+    ) -> Result<u32, TakeFault>
+        requires { (rows : List RowValue) × HasTakenOf D.view attached.old self.old rows }
+        // promise: a_refusal_names_its_cause
+        ensures answer { (D.view self.old.disk).is_honest
+            → (rows : List RowValue) → HasTakenOf D.view attached.old self.old rows
+            → IsTakingOf D.view (Has (full self.old.history)) (P.view prepared.old)
+            result attached.old attached.new self.old self.new rows n }
+        // What is promised whatever the store's disk returns.
+        // promise: a_refusal_names_its_cause, no_damage_is_invented
+        ensures kept { (rows : List RowValue) → HasTakenOf D.view attached.old self.old rows
+            → IsTakingOf D.view (IsStored D.view self.old) (P.view prepared.old)
+            result attached.old attached.new self.old self.new rows n }
+        ensures undamaged { (D.view self.old.disk).is_honest
+            → IfErr result (λ e. e ≢ faults.Refused refusals.Damaged) }
+        ensures words { self.new.words ≡ self.old.words }
+        // A crash at any moment leaves the history.
+        // promise: a_crash_leaves_the_old_or_the_new
+        ensures crash { IsCrashSafe D.view
+            (RepresentsAs self.old.catalog.layout self.old.history) self.old self.new }
+        // If the disk doesn't fail, an error leaves the images that a crash may leave unchanged.
+        // promise: few_calls_reach_the_disk
+        ensures refused { (D.view self.old.disk).is_honest
+            → IfErr result (λ e. e ≢ faults.Refused refusals.DiskFault
+            → (D.view self.new.disk).moments ≡ (D.view self.old.disk).moments) }
+        // After `Ok` the disk is unchanged outside the place of the new segment.
+        // promise: nothing_is_written_elsewhere
+        ensures elsewhere { (D.view self.old.disk).is_honest → OnOk result
+            (SameOutside (output_ranges attached.old.segment)
+            (D.view self.old.disk).moments.state.now (D.view self.new.disk).moments.state.now) }
+        // On every disk it makes one write at most, and looks up blocks of listed segments.
+        // promise: few_calls_reach_the_disk, what_is_cached_is_not_read_again
+        // promise: a_failed_disk_is_told
+        ensures meters { IsMeteredTaking result self.old.catalog.entries
+            (output_extents attached.old.segment)
+            (D.view self.old.disk) (D.view self.new.disk) self.old.cache self.new.cache }
+        // Of the stored rows it reads those that have the keys of up to `n` rows, each once at most.
+        // promise: reading_is_bounded
+        ensures few { ReadsFew (min n (rows_left attached.old)) (full self.old.history)
+            (D.view self.old.disk).bytes_read (D.view self.new.disk).bytes_read }
+        // The prepared store is only read, no more than its segment has after the rows taken.
+        // promise: reading_is_bounded
+        ensures prepared { OnlyReads (Counts CountsUnread result)
+            (AtMost (bytes_left attached.old.segment)) (P.view prepared.old) (P.view prepared.new) }
+    {
+        if self.needs_reopen {
+            return Err(TakeFault::Refused(Refusal::ReopenNeeded));
+        }
+        if is_spent(&self.directory) {
+            return Err(TakeFault::Refused(Refusal::CountSpent));
+        }
+        let Some(segment) = &mut attached.segment else {
+            return Ok(0);
+        };
+        let read = read_on(self.alloc, prepared, segment.source, 1, segment.mark, n);
+        let (rows, mark) = match read {
+            Ok(read) => read,
+            Err(fault) => return Err(TakeFault::Unread(fault)),
+        };
+        let fresh = self.compare(rows)?;
+        self.put_rows(segment, &fresh)?;
+        segment.taken = mark.rows();
+        segment.mark = mark;
+        Ok(segment.source.rows - segment.taken)
     }
 }

@@ -1,5 +1,5 @@
 -- Definitions that complete those of `Taking`. No public clause cites them.
-use Rattle.std.specs.Prelude.{◌≡◌, ◌⊎◌, ℕ, ◌+◌, ◌≤◌, Bool, true, false, List, Result, Ok, Err, OnErr}
+use Rattle.std.specs.Prelude.{◌≡◌, ◌⊎◌, ℕ, ◌+◌, ◌≤◌, ◌++◌, ◌∷◌, [], Bool, true, false, List, Result, Ok, Err, OnErr}
 use Rattle.disk_model.specs.View.{DiskView, Calls, Stays, AtMost}
 use Rattle.lru.specs.LruCache.{LruCache}
 use Rattle.blocks.specs.declared.extent.Extent.{Extent}
@@ -17,17 +17,16 @@ use Rattle.history_store.specs.declared.taking.TakeFault.TheVariants as faults
 use Rattle.history_store.specs.declared.refusal.Refusal.TheVariants as refusals
 use Rattle.history_store.specs.Answers.{Counts}
 use Rattle.history_store.specs.Meters.{UncalledIfRefused}
-use Rattle.history_store.specs.Taking.{IsContradicted}
+use Rattle.history_store.specs.Taking.{IsContradicted, IsOfReading}
 
 -- why it isn't known whether a row is new: it is contradicted, or the known row with its key can't
 -- be read
 abbrev pub IsUncompared : List RowValue → (Stands : RowValue → Type 0) → RowValue → TakeFault
     → Type 0
 IsUncompared known Stands row (faults.Contradiction key) = IsContradicted known Stands row key
-IsUncompared known Stands row (faults.Refused refusals.OutOfMemory) = Unit {0}
-IsUncompared known Stands row (faults.Refused refusals.DiskFault) = IsKnown known (key_of row)
-IsUncompared known Stands row (faults.Refused refusals.Damaged) = IsKnown known (key_of row)
-IsUncompared known Stands row _ = ⊥
+IsUncompared known Stands row (faults.Refused e) = (e ≡ refusals.OutOfMemory)
+    ⊎ (IsOfReading e × IsKnown known (key_of row))
+IsUncompared known Stands row (faults.Unread fault) = ⊥
 
 -- whether the row is new; otherwise it stands
 abbrev pub IsVerdictOf : List RowValue → (Stands : RowValue → Type 0) → RowValue
@@ -35,6 +34,15 @@ abbrev pub IsVerdictOf : List RowValue → (Stands : RowValue → Type 0) → Ro
 IsVerdictOf known Stands row (Ok true) = IsUnknown known (key_of row)
 IsVerdictOf known Stands row (Ok false) = IsKnown known (key_of row) × Stands row
 IsVerdictOf known Stands row (Err e) = IsUncompared known Stands row e
+
+-- a row of which no known one has the key is behind the new rows, as a row of an import; any other
+-- one stands
+abbrev pub IsTakenUp : List RowValue → (Stands : RowValue → Type 0) → (import : ℕ) → StampedRow
+    → (old new : List StampedRow) → Result (Unit {0}) TakeFault → Type 0
+IsTakenUp known Stands import s old new (Ok done) =
+    ((new ≡ old ++ record { row = s.row; import = import } ∷ []) × IsUnknown known (key_of s.row))
+    ⊎ ((new ≡ old) × IsKnown known (key_of s.row) × Stands s.row)
+IsTakenUp known Stands import s old new (Err e) = IsUncompared known Stands s.row e
 
 -- why new rows aren't written
 abbrev pub IsUnput : Refusal → Type 0
