@@ -17,9 +17,9 @@ use Rattle.history_store.specs.declared.attached.AttachedSegment.{AttachedSegmen
 use Rattle.history_store.specs.Private.Attaching.{IsBegunWith}
 use Rattle.history_store.specs.Taking.{HaveRows, HaveOutput, output_bytes, output_extent}
 
-pub begun_rows : (h : History) (words kept : Words) (segment : Option AttachedSegment) → kept ≡ words → IsBegunWith kept segment → HaveRows h words segment []
-begun_rows h words kept None same is = refl
-begun_rows h words kept (Some segment) same is = record {
+pub begun_rows : (h : History) (words keeps : Words) (segment : Option AttachedSegment) → keeps ≡ words → IsBegunWith keeps segment → HaveRows h words segment []
+begun_rows h words keeps None same is = refl
+begun_rows h words keeps (Some segment) same is = record {
   read = is.0 1;
   count = is.1;
   output_is = is.2 ∙ ap (λ (w : Words). record { rows = []; words = w }) same;

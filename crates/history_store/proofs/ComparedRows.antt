@@ -208,25 +208,18 @@ module _ (known : List RowValue) (Stands More : RowValue → Type 0) (so : (row 
 
 -- ---- what a reader to which a store's disk was lent leaves
 
-pub looked_so : {D : Type 0} (view : D → DiskView) (old new : StoreValue D) (entries : List Entry) (lent : D) (lent_cache : LruCache ℕ (List ℕ)) → lent ≡ old.disk → lent_cache ≡ old.cache → entries ≡ old.catalog.entries
-    → LooksUpSome (is_listed entries) lent_cache new.cache (view lent).bytes_read (view new.disk).bytes_read → ReadsThroughCache view old new
-looked_so view old new entries lent lent_cache lent_is cache_is entries_are looked_up =
-    subst (λ d. LooksUpSome (is_listed old.catalog.entries) old.cache new.cache (view d).bytes_read (view new.disk).bytes_read) lent_is
-    (subst (λ c. LooksUpSome (is_listed old.catalog.entries) c new.cache (view lent).bytes_read (view new.disk).bytes_read) cache_is
-    (subst (λ (e : List Entry). LooksUpSome (is_listed e) lent_cache new.cache (view lent).bytes_read (view new.disk).bytes_read) entries_are looked_up))
-
-pub only_read : {T D : Type 0} (view : D → DiskView) (result : Result T TakeFault) (bytes : ℕ) (old new : StoreValue D) (lent : D) → lent ≡ old.disk
-    → MomentsStay (view lent).is_honest (view new.disk).is_honest (view lent).moments (view new.disk).moments
-    → (view new.disk).other_calls ≡ (view lent).other_calls
-    → Counts CountsTaking result (view lent).failures (view new.disk).failures
-    → (view new.disk).bytes_read ≤ (view lent).bytes_read + bytes
-    → OnlyReads (Counts CountsTaking result) (AtMost bytes) (view old.disk) (view new.disk)
-only_read view result bytes old new lent lent_is stays calls counted few =
-    let stay = subst (λ x. MomentsStay (view x).is_honest (view new.disk).is_honest (view x).moments (view new.disk).moments) lent_is stays in
+pub only_read : {D : Type 0} (T : Type 0) (view : D → DiskView) (result : Result T TakeFault) (bytes : ℕ) (old new lent : D) → lent ≡ old
+    → MomentsStay (view lent).is_honest (view new).is_honest (view lent).moments (view new).moments
+    → (view new).other_calls ≡ (view lent).other_calls
+    → Counts CountsTaking result (view lent).failures (view new).failures
+    → (view new).bytes_read ≤ (view lent).bytes_read + bytes
+    → OnlyReads (Counts CountsTaking result) (AtMost bytes) (view old) (view new)
+only_read T view result bytes old new lent lent_is stays calls counted few =
+    let stay = subst (λ x. MomentsStay (view x).is_honest (view new).is_honest (view x).moments (view new).moments) lent_is stays in
     record {
       moments = stay.1;
       honesty = stay.0;
-      failures = subst (λ x. Counts CountsTaking result (view x).failures (view new.disk).failures) lent_is counted;
-      bytes_read = subst (λ x. (view new.disk).bytes_read ≤ (view x).bytes_read + bytes) lent_is few;
+      failures = subst (λ x. Counts CountsTaking result (view x).failures (view new).failures) lent_is counted;
+      bytes_read = subst (λ x. (view new).bytes_read ≤ (view x).bytes_read + bytes) lent_is few;
       other_calls = calls ∙ ap (λ d. (view d).other_calls) lent_is;
     }

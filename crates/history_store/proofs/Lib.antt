@@ -26,6 +26,7 @@ pub mod PreparedStores
 pub mod ReadRows
 pub mod ComparedRows
 pub mod PutRows
+pub mod PutPlaces
 pub mod AttachedRows
 pub mod TakenRows
 pub mod SteppedMerge

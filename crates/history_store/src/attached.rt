@@ -66,4 +66,18 @@ impl AttachedSegment {
             bytes: self.source.bytes,
         }
     }
+
+    /// Sets how many rows were taken, and how far the prepared segment was read.
+    pub(crate) fn go_on_to(&mut self, mark: Mark, taken: u32)
+        requires { taken ≤ self.old.source.rows }
+        ensures source { self.new.source ≡ self.old.source }
+        ensures first { self.new.first ≡ self.old.first }
+        ensures taken { self.new.taken ≡ taken }
+        ensures mark { self.new.mark ≡ mark }
+        ensures output { self.new.output ≡ self.old.output }
+        ensures crc { self.new.crc ≡ self.old.crc }
+    {
+        self.taken = taken;
+        self.mark = mark;
+    }
 }

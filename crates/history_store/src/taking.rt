@@ -200,10 +200,10 @@ impl<D: Disk> Store<D> {
             Ok(read) => read,
             Err(fault) => return Err(TakeFault::Unread(fault)),
         };
+        let taken = segment.taken + rows.len() as u32;
         let fresh = self.compare(rows)?;
         self.put_rows(segment, &fresh)?;
-        segment.taken = mark.rows();
-        segment.mark = mark;
+        segment.go_on_to(mark, taken);
         Ok(segment.source.rows - segment.taken)
     }
 }

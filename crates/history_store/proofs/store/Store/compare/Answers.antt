@@ -1,5 +1,5 @@
 use Rattle.std.specs.Prelude.{Ok, Err}
-use Rattle.std.proofs.Common.{◌≡◌, ◌+◌, ◌≤◌, ℕ, List, false, ap, sym, subst, ◌∙◌, arith}
+use Rattle.std.proofs.Common.{Vec, Global, ◌≡◌, ◌+◌, ◌≤◌, ℕ, List, false, ap, sym, subst, ◌∙◌, arith}
 use Rattle.std.specs.List.{sum_by}
 use Rattle.fault_counts.specs.Counting.{Counts}
 use Rattle.rf2_values.specs.Row.{RowValue}
@@ -12,7 +12,7 @@ use Rattle.history_store.specs.StoreValue.{StoreValue}
 use Rattle.history_store.specs.Stored.{MayBe, IsStored}
 use Rattle.history_store.specs.Taking.{AreCompared, IsNotCompared, CountsTaking, without_imports}
 use Rattle.history_store.specs.Private.Reading.{rows_of, MayBeRead}
-use Rattle.history_store.proofs.ComparedRows.{compared_more, not_compared_more, looked_so, only_read}
+use Rattle.history_store.proofs.ComparedRows.{compared_more, not_compared_more, only_read}
 use Rattle.history_store.proofs.Returned.{stored_so}
 use Rattle.history_store.proofs.Held.{lent_sound}
 use Rattle.history_store.proofs.Lent.{reader_honest, held_left}
@@ -79,3 +79,22 @@ returns-after-matches-clause-by_key g c =
     let rows = ap rows_of r.shown ∙ ap (λ (s : StoreValue g.row.D.Denot). full s.history) c.self.view_is in
     not_compared_more (full store.history) Lent (IsStored g.D.Disk.view store) stored (without_imports c.args.rows.items) c.in-Err.fault
     (subst (λ (known : List RowValue). IsNotCompared known Lent (without_imports c.args.rows.items) c.in-Err.fault) rows (c.in-Err.ensures.by_key sound.0 sound.1))
+
+pub returns-after-matches-clause-undamaged : goal.returns-after-matches-clause-undamaged
+returns-after-matches-clause-undamaged g c =
+    let still = subst (λ (s : StoreValue g.row.D.Denot). s.needs_reopen ≡ false) (sym c.self.view_is) c.requires.still in
+    let sound = lent_sound _ _ _ _ _ _ _ c.self.invariant.0 c.places-index.result.now c.new-reader.result.shown.now c.imports-pin.result c.places-index.ensures c.new-reader.ensures.shown c.imports-pin.ensures in
+    rw (← c.self.view_is) (λ up. c.in-Err.ensures.undamaged (reader_honest g.D.Disk.view _ _ _ _ _ _ _ _ _ _ c.self.invariant.0 c.new-reader.ensures.disk c.new-reader.ensures.cache c.new-reader.ensures.entries c.new-reader.ensures.shown up still (g.met.D.Disk.now_is_image c.self.inside.disk up)) sound.0 sound.1)
+
+pub returns-after-matches-clause-meters : goal.returns-after-matches-clause-meters
+returns-after-matches-clause-meters g c =
+    let sound = lent_sound _ _ _ _ _ _ _ c.self.invariant.0 c.places-index.result.now c.new-reader.result.shown.now c.imports-pin.result c.places-index.ensures c.new-reader.ensures.shown c.imports-pin.ensures in
+    let r = c.new-reader.ensures in
+    let lent = c.new-reader.result in
+    let stays = c.compare_listed.ensures.stays in
+    let least = c.in-Err.ensures.work sound.0 sound.1 c.requires.ascending in
+    let sum = ap (λ l. sum_by row_cost (already_known (rows_of l) (without_imports c.args.rows.items))) r.shown in
+    elim c.if-matches.branch [
+      | then-matches w ↦ rw (w.self-is, ← c.self.view_is) (only_read (Vec StampedRow Global) g.D.Disk.view (Err c.in-Err.fault) _ c.self.inside.disk c.compare_listed.new.reader.disk.now lent.disk.now r.disk stays.0 stays.6 c.in-Err.ensures.failures (omega (arith, least, sum)))
+      | else-matches w ↦ rw (w.self-is, ← c.self.view_is) (only_read (Vec StampedRow Global) g.D.Disk.view (Err c.in-Err.fault) _ c.self.inside.disk c.compare_listed.new.reader.disk.now lent.disk.now r.disk stays.0 stays.6 c.in-Err.ensures.failures (omega (arith, least, sum)))
+    ]
