@@ -1,6 +1,7 @@
 -- Taking the rows of an attached import: which are new, where their records go, and the results of
 -- a step.
-use Rattle.std.specs.Prelude.{◌≡◌, ◌≢◌, ◌⊎◌, ℕ, ◌+◌, ◌-◌, ◌≤◌, min, true, false, not, List, [], ◌∷◌, ◌++◌}
+use Rattle.std.specs.Prelude.{◌≡◌, ◌≢◌, ◌⊎◌, ℕ, ◌+◌, ◌-◌, ◌≤◌, min, true, false, not, List, []}
+use Rattle.std.specs.Prelude.{◌∷◌, ◌++◌}
 use Rattle.std.specs.Prelude.{length, map, Option, Some, None, Result, Ok, Err, IfErr}
 use Rattle.std.specs.Option.{option_map, option_to_list}
 use Rattle.std.specs.List.{filter, sum_by, AllByRecursion}
@@ -130,8 +131,8 @@ abbrev pub HaveOutput : Option AttachedSegment → List ℕ → Type 0
 HaveOutput None now = Unit {0}
 HaveOutput (Some segment) now = HasOutput segment now
 
--- The attached import belongs to the store as it is, and these are the rows that were taken. As long
--- as no call has failed, a read of an honest disk returns the records of those that are new.
+-- The attached import belongs to the store as it is, and these are the rows that were taken. As
+-- long as no call has failed, a read of an honest disk returns the records of those that are new.
 pub record HasTakenOf {D : Type 0} (view : D → DiskView) (attached : AttachedImport)
     (s : StoreValue D) (rows : List StampedRow) : Type 0 where
   pub belongs : IsAttachedTo attached s
@@ -152,8 +153,8 @@ HasNoSegment None file = ⊥
 HasNoSegment (Some segment) file =
     (rows : List StampedRow) → IsAt file segment.source rows → AreNumbered 1 rows → ⊥
 
--- Up to `n` more rows, which follow in key order. If the prepared disk is honest and begins with the
--- rows taken before, these are the next ones on it.
+-- Up to `n` more rows, which follow in key order. If the prepared disk is honest and begins with
+-- the rows taken before, these are the next ones on it.
 pub record AreNextRows (shown : DiskView) (attached : AttachedImport) (rows : List StampedRow)
     (n : ℕ) (more : List StampedRow) : Type 0 where
   pub count : length more ≡ min n (rows_left attached)

@@ -1,7 +1,7 @@
 //! Attaching the import of a prepared store.
 
-ghost use Rattle.std.specs.Prelude.{◌≡◌, ◌≢◌, ◌⊎◌, ◌↔◌, ◌≤◌, [], IsTrue, IfOk, Some, None, slice_get};
-ghost use Rattle.std.specs.Prelude.{MatchResult};
+ghost use Rattle.std.specs.Prelude.{◌≡◌, ◌≢◌, ◌⊎◌, ◌↔◌, ◌≤◌, [], IsTrue, IfOk, Some, None};
+ghost use Rattle.std.specs.Prelude.{slice_get, MatchResult};
 ghost use Rattle.disk_model.specs.View.{Calls, AtMost};
 ghost use Rattle.blocks.specs.Extents.{block_count};
 ghost use Rattle.blocks.specs.Slots.{slots_read};

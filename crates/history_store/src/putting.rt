@@ -1,7 +1,7 @@
 //! Adds the new rows of a step to an attached import, and writes their records in their place.
 
-ghost use Rattle.std.specs.Prelude.{◌≡◌, ◌≢◌, ◌⊎◌, ◌+◌, ◌≤◌, ◌<◌, ◌^◌, ◌++◌, ◌∷◌, [], ℕ, List, length};
-ghost use Rattle.std.specs.Prelude.{Ok, Err, IfOk, IfErr, OnOk, OnErr, MatchResult};
+ghost use Rattle.std.specs.Prelude.{◌≡◌, ◌≢◌, ◌⊎◌, ◌+◌, ◌≤◌, ◌<◌, ◌^◌, ◌++◌, ◌∷◌, [], ℕ, List};
+ghost use Rattle.std.specs.Prelude.{length, Ok, Err, IfOk, IfErr, OnOk, OnErr, MatchResult};
 ghost use Rattle.std.specs.List.{AllByRecursion};
 ghost use Rattle.disk_model.specs.Disk.{LeavesOnly};
 ghost use Rattle.disk_model.specs.View.{Stays};
@@ -105,9 +105,9 @@ fn write_rows<D: Disk>(
     Ok(append(crc, &bytes))
 }
 
-/// Adds the new rows of a step to those taken of a prepared segment, and writes their records behind
-/// the ones before by one write. All memory is allocated before the write. A refusal leaves the
-/// segment as it was.
+/// Adds the new rows of a step to those taken of a prepared segment, and writes their records
+/// behind the ones before by one write. All memory is allocated before the write. A refusal leaves
+/// the segment as it was.
 pub(crate) fn put<D: Disk>(
     alloc: Global,
     disk: &mut D,

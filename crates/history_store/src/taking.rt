@@ -1,7 +1,7 @@
 //! Taking the rows of an attached import.
 
-ghost use Rattle.std.specs.Prelude.{◌≡◌, ◌≢◌, ◌+◌, ◌≤◌, ◌<◌, ◌++◌, ◌∷◌, [], None, false, min, List, length};
-ghost use Rattle.std.specs.Prelude.{IfOk, IfErr, OnOk};
+ghost use Rattle.std.specs.Prelude.{◌≡◌, ◌≢◌, ◌+◌, ◌≤◌, ◌<◌, ◌++◌, ◌∷◌, [], None, false, min, List};
+ghost use Rattle.std.specs.Prelude.{length, IfOk, IfErr, OnOk};
 ghost use Rattle.std.specs.List.{AllByRecursion};
 ghost use Rattle.disk_model.specs.View.{OnlyReads, AtMost};
 ghost use Rattle.fault_counts.specs.Counting.{Counts};
@@ -133,10 +133,10 @@ impl<D: Disk> Store<D> {
         }
     }
 
-    /// Takes up to `n` more rows of an attached import, and returns how many are left. They are read
-    /// from the prepared store, with the checks of an opening, and compared with the rows of this
-    /// store; the records of the new ones are written by one write. All memory is allocated before
-    /// the write. An error leaves the attached import as it was.
+    /// Takes up to `n` more rows of an attached import, and returns how many are left. They are
+    /// read from the prepared store, with the checks of an opening, and compared with the rows of
+    /// this store; the records of the new ones are written by one write. All memory is allocated
+    /// before the write. An error leaves the attached import as it was.
     pub fn take_rows<P: Disk>(
         &mut self,
         attached: &mut AttachedImport,
@@ -177,7 +177,7 @@ impl<D: Disk> Store<D> {
         ensures meters { IsMeteredTaking result self.old.catalog.entries
             (output_extents attached.old.segment)
             (D.view self.old.disk) (D.view self.new.disk) self.old.cache self.new.cache }
-        // Of the stored rows it reads those that have the keys of up to `n` rows, each once at most.
+        // Of the stored rows it reads those that have the keys of `n` rows at most, each once.
         // promise: reading_is_bounded
         ensures few { ReadsFew (min n (rows_left attached.old)) (full self.old.history)
             (D.view self.old.disk).bytes_read (D.view self.new.disk).bytes_read }

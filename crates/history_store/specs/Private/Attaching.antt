@@ -23,6 +23,7 @@ HasNoFit entries (Some source) = fit (block_count (extent_of source)) entries No
 -- nothing of the segment is read, and its index has no rows
 abbrev pub IsBegunWith : Words → Option AttachedSegment → Type 0
 IsBegunWith words None = Unit {0}
-IsBegunWith words (Some segment) = ((imports : ℕ) → IsMarkAfter imports segment.source segment.mark [])
+IsBegunWith words (Some segment) =
+    ((imports : ℕ) → IsMarkAfter imports segment.source segment.mark [])
     × (segment.taken ≡ 0) × (segment.output ≡ record { rows = []; words = words })
     × (segment.crc ≡ 0)

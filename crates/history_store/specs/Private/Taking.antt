@@ -1,5 +1,6 @@
 -- Definitions that complete those of `Taking`. No public clause cites them.
-use Rattle.std.specs.Prelude.{◌≡◌, ◌⊎◌, ℕ, ◌+◌, ◌≤◌, ◌++◌, ◌∷◌, [], Bool, true, false, List, Result, Ok, Err, OnErr}
+use Rattle.std.specs.Prelude.{◌≡◌, ◌⊎◌, ℕ, ◌+◌, ◌≤◌, ◌++◌, ◌∷◌, [], Bool, true, false, List}
+use Rattle.std.specs.Prelude.{Result, Ok, Err, OnErr}
 use Rattle.disk_model.specs.View.{DiskView, Calls, Stays, AtMost}
 use Rattle.lru.specs.LruCache.{LruCache}
 use Rattle.blocks.specs.declared.extent.Extent.{Extent}
