@@ -1,9 +1,6 @@
 -- What an attached import has before the first row is taken.
 use Rattle.std.specs.Prelude.{Option, Some, None}
 use Rattle.std.proofs.Common.{◌≡◌, ℕ, List, [], refl, sym, ap, subst, ◌∙◌}
-use Rattle.checksum.specs.Crc32c.{crc32c}
-use Rattle.checksum.specs.declared.form.Form.{Form}
-use Rattle.history_model.specs.declared.stamped.StampedRow.{StampedRow}
 use Rattle.history_model.specs.History.{History}
 use Rattle.directory.specs.declared.layout.Layout.TheVariants as layouts
 use Rattle.directory.specs.Listings.{form_of}

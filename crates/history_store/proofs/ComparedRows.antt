@@ -1,17 +1,14 @@
 -- Rows in key order are compared with the known ones, one by one.
 use Rattle.std.specs.Prelude.{cond, not, Ok, Err}
-use Rattle.std.proofs.Common.{◌≡◌, ◌≢◌, ◌⊎◌, inl, inr, ℕ, ◌+◌, ◌≤◌, Bool, true, false, List, [], ◌∷◌, ◌++◌, map, Result, refl, sym, ap, subst, ◌∙◌, arith}
-use Rattle.std.specs.List.{filter, sum_by, AllByRecursion}
-use Rattle.std.specs.declared.cmp.Ordering.TheVariants.{Less, Equal}
+use Rattle.std.proofs.Common.{◌≡◌, ◌⊎◌, inl, inr, ℕ, ◌+◌, ◌≤◌, Bool, true, false, List, [], ◌∷◌, ◌++◌, Result, refl, sym, ap, subst, ◌∙◌, arith}
+use Rattle.std.specs.List.{sum_by, AllByRecursion}
+use Rattle.std.specs.declared.cmp.Ordering.TheVariants.{Less}
 use Rattle.std.proofs.lemmas.List.{map-append}
 use Rattle.std.proofs.lemmas.List.Elements.{filter-append}
 use Rattle.fault_counts.specs.Counting.{Counts}
 use Rattle.fault_counts.specs.declared.fault.ReadFault.{ReadFault}
 use Rattle.fault_counts.specs.declared.fault.ReadFault.TheVariants as readfault
 use Rattle.disk_model.specs.View.{DiskView, OnlyReads, AtMost}
-use Rattle.lru.specs.LruCache.{LruCache}
-use Rattle.blocks.specs.Cache.{LooksUpSome}
-use Rattle.directory.specs.declared.entry.Entry.{Entry}
 use Rattle.rf2_values.specs.declared.key.Key.{Key}
 use Rattle.rf2_values.specs.Row.{RowValue}
 use Rattle.rf2_values.specs.Key.{key_of}
@@ -25,12 +22,9 @@ use Rattle.import_check.specs.Known.{IsUnknown, IsKnown, has_key, already_known}
 use Rattle.import_check.proofs.Asking.{has_from, has_to, no_key, sum_less, sum_less_one}
 use Rattle.history_store.specs.declared.taking.TakeFault.{TakeFault}
 use Rattle.history_store.specs.declared.taking.TakeFault.TheVariants as faults
-use Rattle.history_store.specs.declared.refusal.Refusal.TheVariants as refusals
 use Rattle.history_store.specs.Refusals.{of_read}
-use Rattle.history_store.specs.Queries.{ReadsThroughCache, is_listed}
-use Rattle.history_store.specs.StoreValue.{StoreValue}
 use Rattle.history_store.specs.Private.Reading.{MomentsStay}
-use Rattle.history_store.specs.Taking.{AreCompared, CountsTaking, IsNewOrStands, IsContradicted, IsNotCompared, unknown_rows, without_imports}
+use Rattle.history_store.specs.Taking.{AreCompared, CountsTaking, IsNewOrStands, IsNotCompared, unknown_rows, without_imports}
 use Rattle.history_store.specs.Private.Taking.{IsUncompared, IsTakenUp, IsVerdictOf}
 
 -- ---- keys

@@ -1,5 +1,5 @@
 -- New rows are added to the output of an attached import.
-use Rattle.std.proofs.Common.{◌≡◌, ℕ, ◌+◌, ◌≤◌, List, [], ◌∷◌, ◌++◌, length, take, drop, sym, ap, subst, ◌∙◌, append_assoc}
+use Rattle.std.proofs.Common.{◌≡◌, ℕ, ◌≤◌, List, ◌++◌, length, take, drop, sym, ap, subst, ◌∙◌, append_assoc}
 use Rattle.std.proofs.lemmas.List.{take-append-drop}
 use Rattle.history_model.specs.declared.stamped.StampedRow.{StampedRow}
 use Rattle.blocks.specs.declared.extent.Extent.{Extent}

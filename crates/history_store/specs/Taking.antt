@@ -6,7 +6,6 @@ use Rattle.std.specs.Prelude.{length, map, Option, Some, None, Result, Ok, Err, 
 use Rattle.std.specs.Option.{option_map, option_to_list}
 use Rattle.std.specs.List.{filter, sum_by, AllByRecursion}
 use Rattle.fault_counts.specs.Counting.{Counts, CountsDiskFault, HasRisen}
-use Rattle.fault_counts.specs.declared.fault.ReadFault.{ReadFault}
 use Rattle.fault_counts.specs.declared.fault.ReadFault.TheVariants as readfault
 use Rattle.disk_model.specs.View.{DiskView, Calls, AtMost, Unsaid}
 use Rattle.lru.specs.LruCache.{LruCache}
@@ -25,7 +24,7 @@ use Rattle.directory.specs.declared.layout.Layout.TheVariants as layouts
 use Rattle.directory.specs.Listings.{form_of}
 use Rattle.segment.specs.Records.{segment_in}
 use Rattle.segment_index.specs.declared.words.Words.{Words}
-use Rattle.import_check.specs.Known.{IsUnknown, IsKnown, MayBeKnown, already_known, has_key}
+use Rattle.import_check.specs.Known.{IsUnknown, IsKnown, already_known, has_key}
 use Rattle.store_image.specs.Ahead.{BeginsWith}
 use Rattle.store_image.specs.Marks.{IsMarkAfter, StartsWith, next_byte}
 use Rattle.store_image.specs.Reading.{AreNumbered, IsAt}

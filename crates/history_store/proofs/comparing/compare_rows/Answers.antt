@@ -1,6 +1,6 @@
 use Rattle.std.specs.Prelude.{Ok, Err}
-use Rattle.std.proofs.Common.{[], ◌∷◌, ◌++◌, ◌+◌, ◌≤◌, List, refl, sym, ap, subst, ◌∙◌, append_assoc, append-nil, arith}
-use Rattle.std.specs.List.{sum_by, AllByRecursion}
+use Rattle.std.proofs.Common.{[], ◌∷◌, ◌++◌, List, sym, ap, subst, ◌∙◌, append_assoc, append-nil, arith}
+use Rattle.std.specs.List.{sum_by}
 use Rattle.std.proofs.lemmas.Result.{err_from_is_err_and}
 use Rattle.rf2_values.specs.Row.{RowValue}
 use Rattle.rf2_values.specs.Key.{key_of}
@@ -9,7 +9,7 @@ use Rattle.history_model.specs.InOrder.{Has, IsAscending}
 use Rattle.history_model.specs.History.{stamped_cmp}
 use Rattle.import_check.specs.Known.{IsUnknown, already_known}
 use Rattle.import_check.proofs.Knowing.{has_asked, asked_so, asked_in_vain, not_asked}
-use Rattle.history_store.specs.Taking.{AreCompared, IsNewOrStands, without_imports}
+use Rattle.history_store.specs.Taking.{AreCompared, without_imports}
 use Rattle.history_store.proofs.ComparedRows.{up_before, up_rows, up_each, not_compared, asked_on, no_less}
 use Rattle.history_store.proofs.comparing.compare_rows.Goals as goal
 

@@ -1,14 +1,11 @@
 use Rattle.std.specs.Prelude.{Some}
-use Rattle.std.proofs.Common.{◌≡◌, List, subst, sym, ap, ◌∙◌}
-use Rattle.fault_counts.specs.declared.fault.ReadFault.TheVariants as readfault
+use Rattle.std.proofs.Common.{◌≡◌, subst, sym}
 use Rattle.rf2_values.specs.declared.key.Key.{Key}
 use Rattle.rf2_values.specs.Row.{RowValue}
 use Rattle.rf2_values.specs.Key.{key_of}
 use Rattle.history_model.specs.InOrder.{Has}
 use Rattle.import_check.specs.Known.{IsKnown, IsUnknown}
 use Rattle.import_check.proofs.Asking.{returned_known}
-use Rattle.history_store.specs.declared.taking.TakeFault.TheVariants as faults
-use Rattle.history_store.specs.Private.Taking.{IsUncompared}
 use Rattle.history_store.proofs.ComparedRows.{uncompared}
 use Rattle.history_store.proofs.comparing.is_new.Goals as goal
 

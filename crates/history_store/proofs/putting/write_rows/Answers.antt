@@ -1,4 +1,4 @@
-use Rattle.std.proofs.Common.{◌+◌, ℕ, List, ◌++◌, refl, ap, ◌∙◌, arith, length}
+use Rattle.std.proofs.Common.{ℕ, List, ◌++◌, refl, ap, ◌∙◌, arith, length}
 use Rattle.checksum.specs.Crc32c.{continued, crc32c}
 use Rattle.checksum.proofs.ChecksumLaws.{goes_on as crc_goes_on}
 use Rattle.segment.proofs.SegmentLaws.{length-segment_in}

@@ -1,7 +1,6 @@
-use Rattle.std.specs.Prelude.{Ok, Err}
-use Rattle.std.proofs.Common.{Vec, Global, ◌≡◌, ◌+◌, ◌≤◌, ℕ, List, false, ap, sym, subst, ◌∙◌, arith}
+use Rattle.std.specs.Prelude.{Err}
+use Rattle.std.proofs.Common.{Vec, Global, ◌≡◌, ◌+◌, ℕ, List, false, ap, sym, subst, ◌∙◌, arith}
 use Rattle.std.specs.List.{sum_by}
-use Rattle.fault_counts.specs.Counting.{Counts}
 use Rattle.rf2_values.specs.Row.{RowValue}
 use Rattle.history_model.specs.declared.stamped.StampedRow.{StampedRow}
 use Rattle.history_model.specs.InOrder.{Has}
@@ -10,7 +9,7 @@ use Rattle.import_check.specs.Known.{already_known}
 use Rattle.history_store.specs.Reading.{row_cost}
 use Rattle.history_store.specs.StoreValue.{StoreValue}
 use Rattle.history_store.specs.Stored.{MayBe, IsStored}
-use Rattle.history_store.specs.Taking.{AreCompared, IsNotCompared, CountsTaking, without_imports}
+use Rattle.history_store.specs.Taking.{AreCompared, IsNotCompared, without_imports}
 use Rattle.history_store.specs.Private.Reading.{rows_of, MayBeRead}
 use Rattle.history_store.proofs.ComparedRows.{compared_more, not_compared_more, only_read}
 use Rattle.history_store.proofs.Returned.{stored_so}
